@@ -1,0 +1,40 @@
+-- `names::compare` meets its contract: what is left of both compares as the whole does. Assumes nothing.
+use mathlib.Core.Path.{_≡_, refl, sym, _∙_}
+use Prim.Native.Nat.{_≤_, _-_}
+use native.Mathlib.Omega.{arith}
+use lib.ListN.{length, drop}
+use Rattle.names.specs.Order.{compareOf}
+use Rattle.names.proofs.Laws.{compare-end, compare-short, compare-long, compare-below, compare-above, compare-next}
+use Rattle.names.proofs.compare.Statement.{statement}
+use Rattle.names.proofs.compare.Tie as tie
+
+abbrev Inv-loop : tie.InvT-loop
+Inv-loop a b shared i₀ i = (i ≤ shared) × (compareOf a b ≡ compareOf (drop i a) (drop i b))
+
+abbrev μ-loop : tie.MeasureT-loop
+μ-loop a b shared i₀ i = shared - i
+
+pub compare-spec : {M : Type 1} → statement M
+compare-spec =
+    tie.close
+    (tie.spec
+    Inv-loop
+    μ-loop
+    (λ c κs. tt)  -- least-requires
+    (λ c. (omega arith, refl))  -- loop-holds
+    (λ c. omega arith)  -- shared-slice-read-x
+    (λ c. omega arith)  -- shared-slice-read-y
+    (λ c. let h = c .before .before .before .before .before in let a = h .before .before .before .before .args in
+    sym (h .loop .inv .1 ∙ compare-below (a .a .now) (a .b .now) (h .loop .i) (omega arith) (omega arith) (omega arith)))  -- returns
+    (λ c. let h = c .before .before .before .before .before in let a = h .before .before .before .before .args in
+    sym (h .loop .inv .1 ∙ compare-above (a .a .now) (a .b .now) (h .loop .i) (omega arith) (omega arith) (omega arith)))  -- returns-2
+    (λ c. omega arith)  -- add-i
+    (λ c. omega arith)  -- loop-less
+    (λ c. let h = c .before .before .before .before in let a = h .before .before .before .before .args in
+    (omega arith, h .loop .inv .1 ∙ compare-next (a .a .now) (a .b .now) (h .loop .i) (omega arith) (omega arith) (omega arith) (omega arith)))  -- loop-again
+    (λ c. let h = c .before .before in let a = h .before .before .before .before .args in
+    sym (h .loop .inv .1 ∙ compare-short (a .a .now) (a .b .now) (h .loop .i) (omega arith) (omega arith)))  -- returns-3
+    (λ c. let h = c .before .before .before in let a = h .before .before .before .before .args in
+    sym (h .loop .inv .1 ∙ compare-long (a .a .now) (a .b .now) (h .loop .i) (omega arith) (omega arith)))  -- returns-4
+    (λ c. let h = c .before .before .before in let a = h .before .before .before .before .args in
+    sym (h .loop .inv .1 ∙ compare-end (a .a .now) (a .b .now) (h .loop .i) (omega arith) (omega arith))))  -- returns-5

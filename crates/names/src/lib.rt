@@ -1,0 +1,42 @@
+// Names in order, as the Rust compares `str`: byte by byte, unsigned, and a proper prefix first.
+ghost use mathlib.Core.Path.{_≡_};
+ghost use Prim.Native.Nat.{min};
+ghost use Rattle.names.specs.Order.{compareOf};
+
+pub enum Order {
+    Less,
+    Equal,
+    Greater,
+}
+
+fn least(a: usize, b: usize) -> usize
+    ensures { λ r. ⌜ r ≡ min a b ⌝ }
+{
+    if a < b { a } else { b }
+}
+
+// Both are read up to the length of the shorter one; where they agree that far, the lengths decide.
+pub fn compare(a: &[u8], b: &[u8]) -> Order
+    ensures { λ r. ⌜ r ≡ compareOf (now (a .entry)) (now (b .entry)) ⌝ }
+{
+    let shared = least(a.len(), b.len());
+    let mut i = 0;
+    while i < shared {
+        let x = a[i];
+        let y = b[i];
+        if x != y {
+            if x < y {
+                return Order::Less;
+            }
+            return Order::Greater;
+        }
+        i += 1;
+    }
+    if i < b.len() {
+        return Order::Less;
+    }
+    if i < a.len() {
+        return Order::Greater;
+    }
+    Order::Equal
+}

@@ -1,0 +1,303 @@
+-- Laws of tests and tables: what a verdict says when it accepts, when it refuses, when bytes are added and when they are cut off.
+-- Assumes nothing.
+use mathlib.Core.Path.{_≡_, refl, sym, ap, _∙_}
+use mathlib.Core.Bool.{Bool, true, false, not, cond, _&&_}
+use mathlib.Core.List.{List, [], _∷_, _++_}
+use Prim.Native.Nat.{ℕ, zero, suc, _+_, _≤_, _<_}
+use native.Mathlib.Decide.{decLt}
+use native.Mathlib.Numerals.{add-one}
+use native.Mathlib.Omega.{arith}
+use borrow.Author.Tests.{lt-ltb, le-ltb, ltb-true, ltb-false, le-leb, lt-leb, leb-true, leb-false, eq-eqb, ne-eqb, eqb-true, eqb-false, not-true, not-false}
+use Rattle.rules.specs.Rules.{Answer, refuse, accept, codeOf, Test, Holds, Fails, holds, Rule, Found, first, each, _orElse_, _otherwise_, Passed, At, refusalAt, Stands, Kept, Stays}
+use Rattle.rules.specs.Rules.Answer.{gives}
+use Rattle.rules.specs.Rules.Test.{_<?_, _≤?_, _≠?_, is, isn't, _and_}
+use Rattle.rules.specs.Rules.Rule.{_⇒_at_}
+use Rattle.rules.specs.Rules.Found.{pass, stop}
+
+-- a pair, for chains of facts
+infixr 5 _&_
+abbrev pub _&_ : {A B : Type 0} → A → B → A × B
+_&_ a b = (a, b)
+
+-- WHAT IS IMPOSSIBLE
+
+pub false-true : {A : Type 0} → false ≡ true → A
+false-true e = let z : _≡_ {A = ℕ} 0 1 = cc in absurd (omega arith)
+
+stop-pass : {A : Type 0} {c p : ℕ} → stop c p ≡ pass → A
+stop-pass e = let z : _≡_ {A = ℕ} 0 1 = cc in absurd (omega arith)
+
+-- TESTS: what `holds` computes is what `Holds` and `Fails` say.
+
+pub is-held : (t : Test) → Holds t → holds t ≡ true
+is-held (a <? b) h = lt-ltb a b h
+is-held (a ≤? b) h = le-leb a b h
+is-held (a ≠? b) h = ap not (ne-eqb a b h)
+is-held (is b) h = h
+is-held (isn't b) h = ap not h
+is-held (t and u) h = rw (is-held t (h .0)) (is-held u (h .1))
+
+both : (a b : Bool) → (a && b) ≡ true → (a ≡ true) × (b ≡ true)
+both true b e = (refl, e)
+both false b e = false-true e
+
+pub held : (t : Test) → holds t ≡ true → Holds t
+held (a <? b) e = ltb-true a b e
+held (a ≤? b) e = leb-true a b e
+held (a ≠? b) e = eqb-false a b (not-true _ e)
+held (is b) e = e
+held (isn't b) e = not-true b e
+held (t and u) e = let w = both (holds t) (holds u) e in (held t (w .0), held u (w .1))
+
+pub failed : (t : Test) → holds t ≡ false → Fails t
+failed (a <? b) e = ltb-false a b e
+failed (a ≤? b) e = leb-false a b e
+failed (a ≠? b) e = eqb-true a b (not-false _ e)
+failed (is b) e = e
+failed (isn't b) e = not-false b e
+failed (t and u) e = λ h. failed u (rw (is-held t h) at e)
+
+pub is-failed : (t : Test) → Fails t → holds t ≡ false
+is-failed (a <? b) h = le-ltb a b h
+is-failed (a ≤? b) h = lt-leb a b h
+is-failed (a ≠? b) h = ap not (eq-eqb a b h)
+is-failed (is b) h = h
+is-failed (isn't b) h = ap not h
+is-failed (t and u) h = go (holds t) refl (λ e. is-failed u (h (held t e)))
+  where
+    go : (a : Bool) → holds t ≡ a → (holds t ≡ true → holds u ≡ false) → (a && holds u) ≡ false
+    go true e r = r e
+    go false e r = refl
+
+-- a choice by a test, from what it says either way
+pub by-test : (t : Test) {A : Type 0} (P : A → Type 0) {x y : A} → (Holds t → P x) → (Fails t → P y) → P (cond (holds t) x y)
+by-test t P {x} {y} f g = go (holds t) refl
+  where
+    go : (u : Bool) → holds t ≡ u → P (cond u x y)
+    go true e = f (held t e)
+    go false e = g (failed t e)
+
+-- a test that cannot hold fails, and one that fails does not hold
+pub unless : (t : Test) → (Holds t → ⊥) → Fails t
+unless t h = go (holds t) refl
+  where
+    go : (u : Bool) → holds t ≡ u → Fails t
+    go true e = absurd (h (held t e))
+    go false e = failed t e
+
+pub never : (t : Test) → Fails t → Holds t → ⊥
+never t f h = let z : false ≡ true = sym (is-failed t f) ∙ is-held t h in false-true z
+
+-- ONE TABLE
+
+-- the first row that holds gives the refusal
+pub first-at : (k : ℕ) (rows : List Rule) → At k rows → first rows ≡ refusalAt k rows
+unfolding first
+first-at k [] h = absurd h
+first-at zero ((t ⇒ c at p) ∷ rows) h = rw (is-held t h)
+first-at (suc k) ((t ⇒ c at p) ∷ rows) h = rw (is-failed t (h .0)) (first-at k rows (h .1))
+
+-- a table passes exactly where no row holds
+pub first-pass : (rows : List Rule) → Passed rows → first rows ≡ pass
+unfolding first
+first-pass [] h = refl
+first-pass ((t ⇒ c at p) ∷ rows) h = rw (is-failed t (h .0)) (first-pass rows (h .1))
+
+pub passed : (rows : List Rule) → first rows ≡ pass → Passed rows
+unfolding first
+passed [] e = tt
+passed ((t ⇒ c at p) ∷ rows) e =
+    by-test t (λ z. z ≡ pass → Fails t × Passed rows) (λ h. stop-pass) (λ h e. (h, passed rows e)) e
+
+-- TABLE AFTER TABLE, AND THE ANSWER
+
+pub stops : {f : Found} {c p : ℕ} (next : Found) → f ≡ stop c p → (f orElse next) ≡ stop c p
+unfolding _orElse_
+stops next e = rw e
+
+pub goes : {f : Found} (next : Found) → f ≡ pass → (f orElse next) ≡ next
+unfolding _orElse_
+goes next e = rw e
+
+pub both-pass : (f next : Found) → (f orElse next) ≡ pass → (f ≡ pass) × (next ≡ pass)
+unfolding _orElse_
+both-pass pass next e = (refl, e)
+both-pass (stop c p) next e = stop-pass e
+
+pub refused : {f : Found} {c p : ℕ} (x : Answer) → f ≡ stop c p → (f otherwise x) ≡ refuse c p
+unfolding _otherwise_
+refused x e = rw e
+
+pub answered : {f : Found} (x : Answer) → f ≡ pass → (f otherwise x) ≡ x
+unfolding _otherwise_
+answered x e = rw e
+
+-- values come only with an answer that all checks let through
+pub let-through : (f : Found) (x : Answer) {c p n : ℕ} {v : List ℕ} → (f otherwise x) ≡ gives c (n ∷ v) p → (f ≡ pass) × (x ≡ gives c (n ∷ v) p)
+unfolding _otherwise_
+let-through pass x e = (refl, e)
+let-through (stop c p) x e = let z : _≡_ {A = ℕ} 0 1 = cc in absurd (omega arith)
+
+-- and a refusal with no values is a row's, where the answer has some
+pub turned-down : (f : Found) (n : ℕ) (v : List ℕ) {c p : ℕ} → (f otherwise accept (n ∷ v)) ≡ refuse c p → f ≡ stop c p
+unfolding _otherwise_
+turned-down pass n v e = let z : _≡_ {A = ℕ} 0 1 = cc in absurd (omega arith)
+turned-down (stop c p) n v e = cc
+
+-- A FAMILY OF TABLES, ENTRY BY ENTRY
+
+pub first-append : (a b : List Rule) → first (a ++ b) ≡ (first a orElse first b)
+unfolding first _orElse_
+first-append [] b = refl
+first-append ((t ⇒ c at p) ∷ rows) b = go (holds t) (first-append rows b)
+  where
+    go : (u : Bool) → first (rows ++ b) ≡ (first rows orElse first b) → cond u (stop c p) (first (rows ++ b)) ≡ (cond u (stop c p) (first rows) orElse first b)
+    go true e = refl
+    go false e = e
+
+-- what holds below n and at n holds below n + 1
+and-last : (P : ℕ → Type 0) (n : ℕ) → ((k : ℕ) → k < n → P k) → P n → (k : ℕ) → k < suc n → P k
+and-last P n below last k p = go (decLt k n)
+  where
+    go : Dec (k < n) → P k
+    go (yes q) = below k q
+    go (no q) = let z : k ≡ n = omega arith in rw z last
+
+module _ (table : ℕ → List Rule) where
+  -- none yet; one more; and the first that stops, stops all
+  pub each-none : first (each table 0) ≡ pass
+  unfolding first each
+  each-none = refl
+
+  pub each-more : (k : ℕ) → first (each table k) ≡ pass → first (each table (k + 1)) ≡ first (table k)
+  unfolding each
+  each-more k e = rw (add-one k) (first-append (each table k) (table k) ∙ goes _ e)
+
+  pub each-stop : (k n : ℕ) {c p : ℕ} → first (each table k) ≡ pass → first (table k) ≡ stop c p → k < n → first (each table n) ≡ stop c p
+  unfolding each
+  each-stop k zero e h q = absurd (omega arith)
+  each-stop k (suc n) {c} {p} e h q =
+      first-append (each table n) (table n) ∙ go (each-stop k n e h) (decLt k n)
+    where
+      go : (k < n → first (each table n) ≡ stop c p) → Dec (k < n) → (first (each table n) orElse first (table n)) ≡ stop c p
+      go r (yes w) = stops _ (r w)
+      go r (no w) = let z : k ≡ n = omega arith in rw (← z) (goes _ e ∙ h)
+
+  -- all pass exactly where each does
+  pub each-pass : (n : ℕ) → ((k : ℕ) → k < n → Passed (table k)) → first (each table n) ≡ pass
+  unfolding each first
+  each-pass zero h = refl
+  each-pass (suc n) h =
+      first-append (each table n) (table n)
+      ∙ goes _ (each-pass n (λ k p. h k (omega arith)))
+      ∙ first-pass (table n) (h n (omega arith))
+
+  pub each-passed : (n : ℕ) → first (each table n) ≡ pass → (k : ℕ) → k < n → Passed (table k)
+  unfolding each
+  each-passed zero e = λ k p. absurd (omega arith)
+  each-passed (suc n) e =
+      let w = both-pass (first (each table n)) _ (sym (first-append (each table n) (table n)) ∙ e) in
+      and-last (λ j. Passed (table j)) n (each-passed n (w .0)) (passed (table n) (w .1))
+
+pub each-same : (f g : ℕ → List Rule) (n : ℕ) → ((k : ℕ) → k < n → f k ≡ g k) → each f n ≡ each g n
+unfolding each
+each-same f g zero h = refl
+each-same f g (suc n) h = rw (each-same f g n (λ k p. h k (omega arith)), h n (omega arith))
+
+-- MEANING: what passing and each refusal come to, put together from what each row says. `A` is what is so where all rows pass, and
+-- `B code place` where a row stops with these numbers.
+
+pub data Meant (A : Type 0) (B : ℕ → ℕ → Type 0) : Found → Type 0 where
+  all-pass : A → Meant A B pass
+  one-stops : {code place : ℕ} → B code place → Meant A B (stop code place)
+
+-- what a table's rows have to show: each row its refusal, and all that fail what passing means
+abbrev pub Cases : Type 0 → (ℕ → ℕ → Type 0) → List Rule → Type 0
+Cases A B [] = A
+Cases A B ((t ⇒ c at p) ∷ rows) = (Holds t → B c p) × (Fails t → Cases A B rows)
+
+pub by-rows : (A : Type 0) (B : ℕ → ℕ → Type 0) (rows : List Rule) → Cases A B rows → Meant A B (first rows)
+unfolding first
+by-rows A B [] k = all-pass k
+by-rows A B ((t ⇒ c at p) ∷ rows) k =
+    by-test t (Meant A B) (λ h. one-stops (k .0 h)) (λ f. by-rows A B rows (k .1 f))
+
+pub meant-then : {A C : Type 0} {B : ℕ → ℕ → Type 0} {f : Found} (next : Found) → Meant A B f → (A → Meant C B next) → Meant C B (f orElse next)
+unfolding _orElse_
+meant-then next (all-pass a) k = k a
+meant-then next (one-stops b) k = one-stops b
+
+-- entry by entry: each table shows its refusals, given that those before it passed
+abbrev AllPassed : (ℕ → List Rule) → ℕ → Type 0
+AllPassed table n = (k : ℕ) → k < n → Passed (table k)
+
+pub by-each : (B : ℕ → ℕ → Type 0) (table : ℕ → List Rule) (n : ℕ) → ((k : ℕ) → k < n → AllPassed table k → Cases (Unit {0}) B (table k)) → Meant (AllPassed table n) B (first (each table n))
+unfolding each first
+by-each B table zero h = all-pass (λ k p. absurd (omega arith))
+by-each B table (suc n) h =
+    rw (first-append (each table n) (table n))
+    (meant-then (first (table n)) (by-each B table n (λ k p. h k (omega arith))) λ all.
+    go all (first (table n)) refl (by-rows (Unit {0}) B (table n) (h n (omega arith) all)))
+  where
+    go : AllPassed table n → (next : Found) → first (table n) ≡ next → Meant (Unit {0}) B next → Meant (AllPassed table (suc n)) B next
+    go all pass e (all-pass u) = all-pass (and-last (λ j. Passed (table j)) n all (passed (table n) e))
+    go all (stop c p) e (one-stops b) = one-stops b
+
+pub meant-map : {A C : Type 0} {B D : ℕ → ℕ → Type 0} {f : Found} → (A → C) → ((c p : ℕ) → B c p → D c p) → Meant A B f → Meant C D f
+meant-map g h (all-pass a) = all-pass (g a)
+meant-map g h (one-stops {code = c} {place = p} b) = one-stops (h c p b)
+
+of-pass : {A : Type 0} {B : ℕ → ℕ → Type 0} → Meant A B pass → A
+of-pass (all-pass a) = a
+
+of-stop : {A : Type 0} {B : ℕ → ℕ → Type 0} {c p : ℕ} → Meant A B (stop c p) → B c p
+of-stop (one-stops b) = b
+
+pub meant-pass : {A : Type 0} {B : ℕ → ℕ → Type 0} {f : Found} → Meant A B f → f ≡ pass → A
+meant-pass m e = of-pass (rw e at m)
+
+pub meant-stop : {A : Type 0} {B : ℕ → ℕ → Type 0} {f : Found} {c p : ℕ} → Meant A B f → f ≡ stop c p → B c p
+meant-stop m e = of-stop (rw e at m)
+
+-- BYTES ADDED
+
+-- tables that are kept row by row come to the same, but for what more bytes lift
+pub kept : (lifted : ℕ → Bool) (rows rows′ : List Rule) → Kept lifted rows rows′ → Stays lifted (first rows) (first rows′)
+unfolding first
+kept lifted [] [] k = refl
+kept lifted [] (r ∷ rows′) k = absurd k
+kept lifted (r ∷ rows) [] k = absurd k
+kept lifted ((t ⇒ c at p) ∷ rows) ((u ⇒ d at q) ∷ rows′) k =
+    by-test t (λ x. Stays lifted x (cond (holds u) (stop d q) (first rows′)))
+    (λ h. go (lifted c) (k .0 .3) h)
+    (λ f. rw (is-failed u (k .0 .2 f)) (kept lifted rows rows′ (k .1 f)))
+  where
+    go : (b : Bool) → Stands b t u → Holds t → b ≡ false → cond (holds u) (stop d q) (first rows′) ≡ stop c p
+    go true w h e = false-true (sym e)
+    go false w h e = rw (is-held u (w h), k .0 .0, k .0 .1)
+
+pub same-stays : (lifted : ℕ → Bool) (f : Found) → Stays lifted f f
+same-stays lifted pass = refl
+same-stays lifted (stop c p) = λ _. refl
+
+pub stays-then : (lifted : ℕ → Bool) (f g next next′ : Found) → Stays lifted f g → (f ≡ pass → Stays lifted next next′) → Stays lifted (f orElse next) (g orElse next′)
+unfolding _orElse_
+stays-then lifted pass g next next′ k h = rw k (h refl)
+stays-then lifted (stop c p) g next next′ k h = λ e. rw (k e)
+
+pub stays-answer : (lifted : ℕ → Bool) (f g : Found) (x y : Answer) → Stays lifted f g → (f ≡ pass → y ≡ x) → lifted (codeOf (f otherwise x)) ≡ false → (g otherwise y) ≡ (f otherwise x)
+unfolding _otherwise_
+stays-answer lifted pass g x y k h e = rw k (h refl)
+stays-answer lifted (stop c p) g x y k h e = rw (k e)
+
+-- BYTES CUT OFF
+
+-- Where the whole passes and the cut one cannot, the cut one is refused by a number that more bytes lift.
+pub cut-lifted : (lifted : ℕ → Bool) (f g : Found) (x : Answer) → Stays lifted f g → g ≡ pass → (f ≡ pass → ⊥) → lifted (codeOf (f otherwise x)) ≡ true
+unfolding _otherwise_
+cut-lifted lifted pass g x k e n = absurd (n refl)
+cut-lifted lifted (stop c p) g x k e n = go (lifted c) refl
+  where
+    go : (b : Bool) → lifted c ≡ b → lifted c ≡ true
+    go true w = w
+    go false w = stop-pass (sym (k w) ∙ e)

@@ -1,0 +1,1 @@
+// Definitions and laws only: see specs/Rules.antt and proofs/Laws.antt.

@@ -1,0 +1,33 @@
+// Little-endian numbers of one to four bytes (decoder.rs: OffsetSizeBytes).
+ghost use mathlib.Core.Path.{_≡_};
+ghost use Prim.Native.Nat.{_+_, _≤_, _<_};
+ghost use lib.ListN.{length, drop};
+ghost use Rattle.width.specs.Width.{Unpacked};
+
+// A byte as a number, with its bound.
+pub fn wide(x: u8) -> usize
+    ensures { λ r. ⌜ (r ≡ x) × (r < 256) ⌝ }
+{
+    x as usize
+}
+
+// The number that the `width` bytes at `at` spell, the lowest byte first. The sum so far is returned as soon as the width is reached:
+// that is faster than a loop, and every step is the same law.
+pub fn unpack_u32(s: &[u8], at: usize, width: usize) -> usize
+    requires { ⌜ (1 ≤ width) × (width ≤ 4) × (at + width ≤ length (now s)) ⌝ }
+    ensures { λ r. ⌜ Unpacked width (drop at (now (s .entry))) r ⌝ }
+{
+    let one = wide(s[at]);
+    if width == 1 {
+        return one;
+    }
+    let two = one + 0x100 * wide(s[at + 1]);
+    if width == 2 {
+        return two;
+    }
+    let three = two + 0x1_0000 * wide(s[at + 2]);
+    if width == 3 {
+        return three;
+    }
+    three + 0x100_0000 * wide(s[at + 3])
+}
