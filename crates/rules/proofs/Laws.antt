@@ -231,7 +231,8 @@ meant-then next (one-stops b) k = one-stops b
 abbrev AllPassed : (ℕ → List Rule) → ℕ → Type 0
 AllPassed table n = (k : ℕ) → k < n → Passed (table k)
 
-pub by-each : (B : ℕ → ℕ → Type 0) (table : ℕ → List Rule) (n : ℕ) → ((k : ℕ) → k < n → AllPassed table k → Cases (Unit {0}) B (table k)) → Meant (AllPassed table n) B (first (each table n))
+pub by-each : (B : ℕ → ℕ → Type 0) (table : ℕ → List Rule) (n : ℕ)
+    → ((k : ℕ) → k < n → AllPassed table k → Cases (Unit {0}) B (table k)) → Meant (AllPassed table n) B (first (each table n))
 unfolding each first
 by-each B table zero h = all-pass (λ k p. absurd (omega arith))
 by-each B table (suc n) h =
@@ -285,7 +286,8 @@ unfolding _orElse_
 stays-then lifted pass g next next′ k h = rw k (h refl)
 stays-then lifted (stop c p) g next next′ k h = λ e. rw (k e)
 
-pub stays-answer : (lifted : ℕ → Bool) (f g : Found) (x y : Answer) → Stays lifted f g → (f ≡ pass → y ≡ x) → lifted (codeOf (f otherwise x)) ≡ false → (g otherwise y) ≡ (f otherwise x)
+pub stays-answer : (lifted : ℕ → Bool) (f g : Found) (x y : Answer)
+    → Stays lifted f g → (f ≡ pass → y ≡ x) → lifted (codeOf (f otherwise x)) ≡ false → (g otherwise y) ≡ (f otherwise x)
 unfolding _otherwise_
 stays-answer lifted pass g x y k h e = rw k (h refl)
 stays-answer lifted (stop c p) g x y k h e = rw (k e)

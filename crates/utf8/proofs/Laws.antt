@@ -135,14 +135,17 @@ pub text-longest : (s : List ℕ) (n : ℕ) → n ≤ length s → Text (take n 
 unfolding textUpTo
 text-longest s n h r = upTo-longest Char char chars s n h r
 
--- What a loop from character to character goes by.
-pub text-stop : (s : List ℕ) (i : ℕ) → textUpTo s ≡ i + textUpTo (drop i s) → char (drop i s) ≡ 0 → i ≡ textUpTo s
-unfolding textUpTo
-text-stop s i e q = upTo-end Char char chars s i e q
+-- What a loop from character to character goes by. It has come to i: a text stands before i, and what is left decides how far it goes on.
+abbrev pub Reached : List ℕ → ℕ → Type 0
+Reached s i = (i ≤ length s) × (textUpTo s ≡ i + textUpTo (drop i s))
 
-pub text-go : (s : List ℕ) (i n : ℕ) → i ≤ length s → textUpTo s ≡ i + textUpTo (drop i s) → n ≡ char (drop i s) → (n ≡ 0 → ⊥) → (i + n ≤ length s) × (textUpTo s ≡ i + n + textUpTo (drop (i + n) s))
+pub text-stop : (s : List ℕ) (i : ℕ) → Reached s i → char (drop i s) ≡ 0 → i ≡ textUpTo s
 unfolding textUpTo
-text-go s i n l e q p = upTo-next Char char chars s i n l e q p
+text-stop s i r q = upTo-end Char char chars s i (r .1) q
+
+pub text-go : (s : List ℕ) (i n : ℕ) → Reached s i → n ≡ char (drop i s) → (n ≡ 0 → ⊥) → Reached s (i + n)
+unfolding textUpTo
+text-go s i n r q p = upTo-next Char char chars s i n (r .0) (r .1) q p
 
 -- a text is passed whole, and only a text is
 pub text-whole : (s : List ℕ) → Text s → textUpTo s ≡ length s

@@ -40,7 +40,8 @@ look-is [] lo hi a x w p q = w
 look-is (row f t l h n ∷ rows) lo hi a x w p q =
     go (leb f lo && leb hi t) refl (ltb hi f || ltb t lo) refl (λ v. look-is rows lo hi a x v p q) w
   where
-    go : (u : Bool) → (leb f lo && leb hi t) ≡ u → (v : Bool) → (ltb hi f || ltb t lo) ≡ v → (Within rows lo hi x → look rows a ≡ x) → choose u (Seq l h n ≡ x) (choose v (Within rows lo hi x) ⊥) → cond (leb f a && leb a t) (Seq l h n) (look rows a) ≡ x
+    go : (u : Bool) → (leb f lo && leb hi t) ≡ u → (v : Bool) → (ltb hi f || ltb t lo) ≡ v → (Within rows lo hi x → look rows a ≡ x)
+        → choose u (Seq l h n ≡ x) (choose v (Within rows lo hi x) ⊥) → cond (leb f a && leb a t) (Seq l h n) (look rows a) ≡ x
     go true e v f′ k w =
         let u = and-true (leb f lo) (leb hi t) e in
         rw (le-leb f a (omega (arith, leb-true f lo (u .0))), le-leb a t (omega (arith, leb-true hi t (u .1)))) w
@@ -79,7 +80,8 @@ look-followed (row f t l′ h′ n′ ∷ rows) a {l} {h} {n} g e =
     let w = and-true (leb h′ 0xBF) _ (v .1) in
     go (leb f a && leb a t) refl (u .0) (leb-true 0x80 l′ (v .0)) (leb-true h′ 0xBF (w .0)) (look-followed rows a (w .1)) e
   where
-    go : (b : Bool) → (leb f a && leb a t) ≡ b → (ltb t 0x80 || ltb 0xBF f) ≡ true → 0x80 ≤ l′ → h′ ≤ 0xBF → (look rows a ≡ Seq l h n → Followed a l h) → cond b (Seq l′ h′ n′) (look rows a) ≡ Seq l h n → Followed a l h
+    go : (b : Bool) → (leb f a && leb a t) ≡ b → (ltb t 0x80 || ltb 0xBF f) ≡ true → 0x80 ≤ l′ → h′ ≤ 0xBF
+        → (look rows a ≡ Seq l h n → Followed a l h) → cond b (Seq l′ h′ n′) (look rows a) ≡ Seq l h n → Followed a l h
     go true k s p q r e =
         let i : l′ ≡ l = cc in
         let j : h′ ≡ h = cc in

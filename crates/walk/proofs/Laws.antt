@@ -42,7 +42,8 @@ module _ (step : List ℕ → ℕ) where
   upTo-more (suc n) (b ∷ s) e p h = rw e (omega (arith, scan-skip n s (omega arith)))
 
   -- what a loop that goes from item to item keeps: the row up to i, and what comes after it
-  pub upTo-go : (s : List ℕ) (i n j : ℕ) → upTo step s ≡ i + upTo step (drop i s) → i ≤ length s → step (drop i s) ≡ n → 0 < n → n ≤ length s - i → j ≡ i + n → upTo step s ≡ j + upTo step (drop j s)
+  pub upTo-go : (s : List ℕ) (i n j : ℕ) → upTo step s ≡ i + upTo step (drop i s) → i ≤ length s
+      → step (drop i s) ≡ n → 0 < n → n ≤ length s - i → j ≡ i + n → upTo step s ≡ j + upTo step (drop j s)
   upTo-go s i n j e l q p h r =
       rw (r, ← drop-drop n i s)
       (omega (arith, e, upTo-more n (drop i s) q p (simp length-drop h)))
@@ -52,7 +53,8 @@ module _ (Item : List ℕ → Type 0) (step : List ℕ → ℕ) (F : Finds Item 
   pub upTo-end : (s : List ℕ) (i : ℕ) → upTo step s ≡ i + upTo step (drop i s) → step (drop i s) ≡ 0 → i ≡ upTo step s
   upTo-end s i e q = omega (arith, e, upTo-stop step (drop i s) q)
 
-  pub upTo-next : (s : List ℕ) (i n : ℕ) → i ≤ length s → upTo step s ≡ i + upTo step (drop i s) → n ≡ step (drop i s) → (n ≡ 0 → ⊥) → (i + n ≤ length s) × (upTo step s ≡ i + n + upTo step (drop (i + n) s))
+  pub upTo-next : (s : List ℕ) (i n : ℕ) → i ≤ length s → upTo step s ≡ i + upTo step (drop i s) → n ≡ step (drop i s) → (n ≡ 0 → ⊥)
+      → (i + n ≤ length s) × (upTo step s ≡ i + n + upTo step (drop (i + n) s))
   upTo-next s i n l e q p =
       let h : step (drop i s) ≤ length s - i = rw length-drop at (F .inside (drop i s)) in
       (omega (arith, h), upTo-go step s i n (i + n) e l (sym q) (omega arith) (omega (arith, h)) refl)

@@ -1,8 +1,7 @@
 -- `utf8::tails` meets its contract: what is left to look at decides as the whole does. Assumes nothing.
 use mathlib.Core.Path.{_≡_, refl, sym, _∙_}
-use Prim.Native.Nat.{_≤_, _-_}
 use native.Mathlib.Omega.{arith}
-use lib.ListN.{length, drop}
+use lib.ListN.{drop}
 use Rattle.utf8.specs.Utf8.{tailsOf}
 use Rattle.utf8.proofs.Laws.{tails-none, tails-cut, tails-low, tails-high, tails-in}
 use Rattle.utf8.proofs.tails.Statement.{statement}
@@ -14,53 +13,23 @@ Inv-loop s from first last rest at₀ lo₀ hi₀ left₀ at lo hi left = tailsO
 abbrev μ-loop : tie.MeasureT-loop
 μ-loop s from first last rest at₀ lo₀ hi₀ left₀ at lo hi left = left
 
-loop-holds : tie.Need-loop-holds Inv-loop μ-loop
-loop-holds c = refl
-
-returns : tie.Need-returns Inv-loop μ-loop
-returns c =
-    let a = c .before .before .before .args in
-    let l = c .before .before .loop in
-    sym (l .inv ∙ tails-cut (l .lo) (l .hi) (l .at) (a .s .now) (l .left) (omega arith) (omega arith))
-
-shared-slice-read-b : tie.Need-shared-slice-read-b Inv-loop μ-loop
-shared-slice-read-b c = omega arith
-
-returns-2 : tie.Need-returns-2 Inv-loop μ-loop
-returns-2 c =
-    let a = c .before .before .before .before .before .args in
-    let l = c .before .before .before .before .loop in
-    sym (l .inv ∙ tails-low (l .lo) (l .hi) (l .at) (a .s .now) (l .left) (omega arith) (omega arith) (omega arith))
-
-returns-3 : tie.Need-returns-3 Inv-loop μ-loop
-returns-3 c =
-    let a = c .before .before .before .before .before .before .args in
-    let l = c .before .before .before .before .before .loop in
-    sym (l .inv ∙ tails-high (l .lo) (l .hi) (l .at) (a .s .now) (l .left) (omega arith) (omega arith) (omega arith) (omega arith))
-
-add-at : tie.Need-add-at Inv-loop μ-loop
-add-at c = omega arith
-
-sub-left : tie.Need-sub-left Inv-loop μ-loop
-sub-left c = omega arith
-
-loop-less : tie.Need-loop-less Inv-loop μ-loop
-loop-less c = omega arith
-
-loop-again : tie.Need-loop-again Inv-loop μ-loop
-loop-again c =
-    let a = c .before .before .before .before .before .before .args in
-    let l = c .before .before .before .before .before .loop in
-    l .inv ∙ tails-in (l .lo) (l .hi) (l .at) (a .s .now) (l .left) (omega arith) (omega arith) (omega arith) (omega arith)
-
-returns-4 : tie.Need-returns-4 Inv-loop μ-loop
-returns-4 c =
-    let a = c .before .before .args in
-    let l = c .before .loop in
-    let e : l .left ≡ 0 = omega arith in
-    sym (l .inv ∙ rw (e, tails-none))
-
 pub tails-spec : {M : Type 1} → statement M
 tails-spec =
     tie.close
-    (tie.spec Inv-loop μ-loop loop-holds returns shared-slice-read-b returns-2 returns-3 add-at sub-left loop-less loop-again returns-4)
+    (tie.spec
+    Inv-loop
+    μ-loop
+    (λ c. refl)  -- loop-holds
+    (λ c. let h = c .before .before in let l = h .loop in
+    sym (l .inv ∙ tails-cut (l .lo) (l .hi) (l .at) (h .before .args .s .now) (l .left) (omega arith) (omega arith)))  -- returns
+    (λ c. omega arith)  -- shared-slice-read-b
+    (λ c. let h = c .before .before .before .before in let l = h .loop in
+    sym (l .inv ∙ tails-low (l .lo) (l .hi) (l .at) (h .before .args .s .now) (l .left) (omega arith) (omega arith) (omega arith)))  -- returns-2
+    (λ c. let h = c .before .before .before .before .before in let l = h .loop in
+    sym (l .inv ∙ tails-high (l .lo) (l .hi) (l .at) (h .before .args .s .now) (l .left) (omega arith) (omega arith) (omega arith) (omega arith)))  -- returns-3
+    (λ c. omega arith)  -- add-at
+    (λ c. omega arith)  -- sub-left
+    (λ c. omega arith)  -- loop-less
+    (λ c. let h = c .before .before .before .before .before in let l = h .loop in
+    l .inv ∙ tails-in (l .lo) (l .hi) (l .at) (h .before .args .s .now) (l .left) (omega arith) (omega arith) (omega arith) (omega arith))  -- loop-again
+    (λ c. let l = c .before .loop in let e : l .left ≡ 0 = omega arith in sym (l .inv ∙ rw (e, tails-none))))  -- returns-4
