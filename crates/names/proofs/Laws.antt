@@ -11,7 +11,7 @@ use lib.ListN.{length, drop, getD, drop-of-length-le}
 use lib.Seq.{drop-cons}
 use Rattle.names.specs.declared.Order.{Order}
 use Rattle.names.specs.declared.Order.the-variants.{Less, Equal, Greater}
-use Rattle.names.specs.Order.{Before, Says, compareOf}
+use Rattle.names.specs.Order.{Before, Says, compareOf, isLess, below}
 use Rattle.names.specs.Order.Before.{prefix, smaller, onward}
 use Rattle.names.specs.Order.Says.{less, equal, greater}
 
@@ -94,6 +94,20 @@ before-of (less p) = p
 
 pub compare-trans : (s t u : List ℕ) → compareOf s t ≡ Less → compareOf t u ≡ Less → compareOf s u ≡ Less
 compare-trans s t u p q = compare-of (less (before-trans (before-of (says-of s t Less p)) (before-of (says-of t u Less q))))
+
+-- `below` decides `Before`
+pub below-before : (s t : List ℕ) → below s t ≡ true → Before s t
+unfolding below
+below-before s t e = go (compareOf s t) (compare-says s t) e
+  where
+    go : (o : Order) → Says s t o → isLess o ≡ true → Before s t
+    go Less (less p) e = p
+    go Equal (equal p) e = let z : _≡_ {A = ℕ} 0 1 = cc in absurd (omega arith)
+    go Greater (greater p) e = let z : _≡_ {A = ℕ} 0 1 = cc in absurd (omega arith)
+
+pub before-below : {s t : List ℕ} → Before s t → below s t ≡ true
+unfolding below
+before-below p = ap isLess (compare-of (less p))
 
 -- What a loop goes by: both lists from the same place.
 module _ (s t : List ℕ) (i : ℕ) where

@@ -1,6 +1,6 @@
 -- The order of names (document 01, "Dictionary bytes": byte by byte, unsigned; a proper prefix is smaller). Assumes nothing.
 use mathlib.Core.Path.{_≡_}
-use mathlib.Core.Bool.{cond}
+use mathlib.Core.Bool.{Bool, true, false, cond}
 use mathlib.Core.List.{List, [], _∷_}
 use Prim.Native.Nat.{ℕ, _<_}
 use lib.Dec.{ltb}
@@ -25,3 +25,12 @@ compareOf [] [] = Equal
 compareOf [] (b ∷ t) = Less
 compareOf (a ∷ s) [] = Greater
 compareOf (a ∷ s) (b ∷ t) = cond (ltb a b) Less (cond (ltb b a) Greater (compareOf s t))
+
+-- whether the first comes before the second
+abbrev pub isLess : Order → Bool
+isLess Less = true
+isLess Equal = false
+isLess Greater = false
+
+unfoldable pub below : List ℕ → List ℕ → Bool
+below s t = isLess (compareOf s t)

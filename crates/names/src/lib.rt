@@ -1,7 +1,7 @@
 // Names in order, as the Rust compares `str`: byte by byte, unsigned, and a proper prefix first.
 ghost use mathlib.Core.Path.{_≡_};
 ghost use Prim.Native.Nat.{min};
-ghost use Rattle.names.specs.Order.{compareOf};
+ghost use Rattle.names.specs.Order.{compareOf, below};
 
 pub enum Order {
     Less,
@@ -39,4 +39,16 @@ pub fn compare(a: &[u8], b: &[u8]) -> Order
         return Order::Greater;
     }
     Order::Equal
+}
+
+// Whether `a` comes before `b`.
+pub fn is_below(a: &[u8], b: &[u8]) -> bool
+    ensures { λ r. ⌜ r ≡ below (now (a .entry)) (now (b .entry)) ⌝ }
+{
+    let order = compare(a, b);
+    match order {
+        Order::Less => true,
+        Order::Equal => false,
+        Order::Greater => false,
+    }
 }

@@ -1,0 +1,85 @@
+-- Where the dictionary's numbers stand, and by which table its checks are settled. Assumes nothing.
+use mathlib.Core.Path.{_≡_, refl, sym, ap, _∙_}
+use mathlib.Core.Bool.{Bool}
+use mathlib.Core.List.{List}
+use Prim.Native.Nat.{ℕ, _+_, _-_, _*_, _≤_, _<_}
+use native.Mathlib.Nat.{mul-le-mul-left, add-zero}
+use native.Mathlib.Omega.{arith}
+use lib.ListN.{length}
+use Rattle.part.specs.Part.{part}
+use Rattle.part.proofs.Laws.{part-length, part-part}
+use Rattle.utf8.specs.Utf8.{Text}
+use Rattle.utf8.proofs.Laws.{text-all}
+use Rattle.utf8.proofs.Bounds.{text-first}
+use Rattle.rules.specs.Rules.{Found, first, each, Passed, Holds, Fails, _orElse_}
+use Rattle.rules.specs.Rules.Found.{pass, stop}
+use Rattle.rules.proofs.Laws.{first-pass, passed, stops, goes, unless, both-pass, each-passed}
+use Rattle.metadata.specs.Dictionary.{headRules, regionRules, entryRows, entryRules, checks, sorted, width, count, offset, start, end, region, name, cuts}
+
+-- PLACES
+
+module _ (d : List ℕ) where
+  -- in their order
+  pub count-before : 1 + width d ≤ start d
+  unfolding start
+  count-before = omega arith
+
+  pub start-before : start d ≤ end d
+  unfolding end
+  start-before = omega arith
+
+  pub end-is : end d ≡ start d + offset d (count d)
+  unfolding end
+  end-is = refl
+
+  -- the header holds offset k
+  pub offset-inside : (w k : ℕ) → w ≡ width d → k ≤ count d → 1 + w + w * k + w ≤ start d
+  unfolding start
+  offset-inside w k e h = rw e (omega (arith, mul-le-mul-left (width d) h))
+
+  -- the part of the bytes that is the region
+  pub region-is : (v e : ℕ) → v ≡ start d → e ≡ end d → part d v e ≡ region d
+  unfolding region
+  region-is v e p q = rw (p, q)
+
+  pub region-length : end d ≤ length d → length (region d) ≡ offset d (count d)
+  unfolding region
+  region-length h = part-length d (start d) (end d) start-before h ∙ omega (arith, end-is)
+
+  -- a name in the region is a part of the dictionary
+  pub name-part : (k : ℕ) → end d ≤ length d → offset d (k + 1) ≤ length (region d) → part d (start d + offset d k) (start d + offset d (k + 1)) ≡ name d k
+  unfolding name region
+  name-part k h i =
+      sym (part-part d (start d) (end d) (offset d k) (offset d (k + 1)) (omega (arith, end-is, region-length h)))
+
+-- a text starts with no byte that continues a character
+pub uncut-zero : (r : List ℕ) → Text r → Fails (cuts r 0)
+uncut-zero r t = unless (cuts r 0) (λ h. text-first t (h .0) (h .1))
+
+-- a region that passes is one
+pub text-passed : (r : List ℕ) → first (regionRules r) ≡ pass → Text r
+text-passed r e = text-all r (passed (regionRules r) e .0)
+
+-- THE CHECKS, BY WHERE THEY ARE SETTLED
+
+module _ (d : List ℕ) where
+  -- the rows of entry k, from the numbers
+  pub entry-is : (k : ℕ) {b : Bool} {r : List ℕ} {p a e : ℕ} → b ≡ sorted d → r ≡ region d → p ≡ offset d (k - 1) → a ≡ offset d k → e ≡ offset d (k + 1) → first (entryRules d k) ≡ first (entryRows b r p a e k)
+  unfolding entryRules
+  entry-is k e1 e2 e3 e4 e5 = rw (e1, e2, e3, e4, e5)
+
+  pub by-head : {c p : ℕ} → first (headRules d) ≡ stop c p → checks d ≡ stop c p
+  unfolding checks
+  by-head e = stops _ e
+
+  pub by-region : Passed (headRules d) → {f : Found} → first (regionRules (region d)) ≡ f → checks d ≡ (f orElse first (each (entryRules d) (count d)))
+  unfolding checks
+  by-region h e = goes _ (first-pass (headRules d) h) ∙ rw e
+
+  -- what passing means for an entry's offsets
+  pub in-range : (k : ℕ) → checks d ≡ pass → k < count d → (offset d k ≤ offset d (k + 1)) × (offset d (k + 1) ≤ length (region d))
+  unfolding checks entryRules
+  in-range k e p =
+      let rest = both-pass (first (headRules d)) _ e .1 in
+      let rows = each-passed (entryRules d) (count d) (both-pass (first (regionRules (region d))) _ rest .1) k p in
+      (rows .0, rows .1 .0)

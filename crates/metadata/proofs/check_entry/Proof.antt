@@ -1,0 +1,54 @@
+-- `metadata::check_entry` meets its contract: each refusal is the first row that holds. Assumes nothing.
+use mathlib.Core.Path.{_≡_, sym, _∙_}
+use Prim.Native.Nat.{_+_, _-_}
+use native.Mathlib.Omega.{arith}
+use borrow.Author.Needs.{needs}
+use Rattle.rules.specs.Rules.{first, Fails}
+use Rattle.rules.proofs.Laws.{first-at, first-pass, _&_}
+use Rattle.metadata.specs.Dictionary.{cuts, entryRows, entryRules}
+use Rattle.metadata.proofs.Laws.{entry-is}
+use Rattle.metadata.proofs.check_entry.Statement.{statement}
+use Rattle.metadata.proofs.check_entry.Tie as tie
+
+-- the entry's table, in the numbers at hand
+rows : (c : tie.After-offset-at) → let a = c .before .before .before .args in
+    first (entryRules (a .dict .now) (a .k)) ≡ first (entryRows (a .h .sorted) (a .region .now) (a .p) (a .a) (c .offset-at .result) (a .k))
+rows c =
+    let s = c .before .before .before in
+    let reached = s .pre .3 in
+    entry-is (s .args .dict .now) (s .args .k) (s .pre .0 .sorted-is) (s .pre .1) (reached .before-is) (reached .start-is) (c .offset-at .ensures .0)
+
+start-whole : (s : tie.Start) → Fails (cuts (s .args .region .now) (s .args .a))
+start-whole s = rw (s .pre .1) (s .pre .3 .whole)
+
+pub check-entry-spec : {M : Type 1} → statement M
+check-entry-spec =
+    tie.close
+    (tie.spec
+    (λ c. search needs)  -- add-offset-at
+    (λ c κs. search needs)  -- offset-at-requires
+    (λ c. rows (c .before) ∙ first-at 0 _ (omega arith))  -- returns
+    (λ c. rows (c .before .before) ∙ first-at 1 _ (omega arith))  -- returns-2
+    (λ c κs. search needs)  -- cuts-at-requires
+    (λ c. let o = c .before .before .before .before in
+    let cut = rw (c .if3 .taken) at (c .before .cuts-at .ensures) in
+    rows o ∙ first-at 3 _ (omega arith & omega arith & start-whole (o .before .before .before) & cut))  -- returns-3
+    (λ c κs. search needs)  -- not-above-requires
+    (λ c. let o = c .before .before .before .before .before .before in
+    let end-whole = rw (c .before .before .if3 .left) at (c .before .before .before .cuts-at .ensures) in
+    let fault = rw (c .if4 .taken) at (c .before .not-above .ensures) in
+    rows o ∙ first-at 4 _ (omega arith & omega arith & start-whole (o .before .before .before) & end-whole & fault))  -- returns-4
+    (λ c. let o = c .before .before .before .before .before .before in
+    let s = o .before .before .before in
+    let end-whole = rw (c .before .before .if3 .left) at (c .before .before .before .cuts-at .ensures) in
+    let above = rw (c .if4 .left) at (c .before .not-above .ensures) in
+    let k-is : s .args .k + 1 - 1 ≡ s .args .k = omega arith in (
+      rows o ∙ first-pass _ (omega arith & omega arith & start-whole s & end-whole & above & tt),
+      record {
+        before-is = rw k-is (s .pre .3 .start-is);
+        start-is = o .offset-at .ensures .0;
+        rises = omega arith;
+        inside = rw (← s .pre .1) (omega arith);
+        whole = rw (← s .pre .1) end-whole;
+      },
+    )))  -- returns-5

@@ -1,0 +1,15 @@
+-- `metadata::check_text` meets its contract: the one row of its table. Assumes nothing.
+use mathlib.Core.Path.{sym}
+use native.Mathlib.Omega.{arith}
+use borrow.Author.Needs.{needs}
+use Rattle.rules.proofs.Laws.{first-at, first-pass}
+use Rattle.metadata.proofs.check_text.Statement.{statement}
+use Rattle.metadata.proofs.check_text.Tie as tie
+
+pub check-text-spec : {M : Type 1} → statement M
+check-text-spec =
+    tie.close
+    (tie.spec
+    (λ c κs. search needs)  -- valid-len-requires
+    (λ c. rw (c .before .valid-len .ensures) (sym (first-at 0 _ (omega arith))))  -- returns
+    (λ c. sym (first-pass _ (omega arith))))  -- returns-2

@@ -1,0 +1,17 @@
+-- `metadata::end_of` meets its contract: the last offset, after the start. Assumes nothing.
+use mathlib.Core.Path.{ap}
+use native.Mathlib.Omega.{arith}
+use borrow.Author.Needs.{needs}
+use Rattle.metadata.specs.Dictionary.{end, offset}
+use Rattle.metadata.proofs.end_of.Statement.{statement}
+use Rattle.metadata.proofs.end_of.Tie as tie
+
+pub end-of-spec : {M : Type 1} → statement M
+unfolding end
+end-of-spec =
+    tie.close
+    (tie.spec
+    (λ c κs. search needs)  -- offset-at-requires
+    (λ c. search needs)  -- add-result
+    (λ c. let s = c .before .before .before in
+    omega (arith, ap (offset (s .args .dict .now)) (s .pre .0 .count-is))))  -- returns

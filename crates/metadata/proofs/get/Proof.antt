@@ -1,0 +1,32 @@
+-- `metadata::get` meets its contract: the dictionary's refusal, then 31, then the span. Assumes nothing.
+use mathlib.Core.Path.{_≡_, sym, _∙_}
+use Prim.Native.Nat.{_≤_, _<_}
+use native.Mathlib.Omega.{arith}
+use borrow.Author.Needs.{needs}
+use Rattle.rules.proofs.Laws.{refused, answered, stops, goes, first-at, first-pass}
+use Rattle.metadata.specs.Dictionary.{count, nameAt}
+use Rattle.metadata.specs.Steps.{CheckedOf}
+use Rattle.metadata.specs.declared.Head.the-variants.{Good}
+use Rattle.metadata.proofs.get.Statement.{statement}
+use Rattle.metadata.proofs.get.Tie as tie
+
+pub get-spec : {M : Type 1} → statement M
+unfolding nameAt
+get-spec =
+    tie.close
+    (tie.spec
+    (λ c κs. search needs)  -- checked-requires
+    (λ c. search needs)  -- enum-known-head
+    (λ c. search needs)  -- enum-known-head-2
+    (λ c. let m = c .before .before .before in
+    let h = rw (m .head2 .given .1) at (m .before .before .checked .ensures) in
+    let beyond : count (m .before .before .before .before .args .dict .now) ≤ m .before .before .before .before .args .i = omega arith in
+    sym (refused _ (goes _ (h .1) ∙ first-at 0 _ beyond)))  -- returns
+    (λ c κs. let m = c .before .before .before in
+    let h = rw (m .head2 .given .1) at (m .before .before .checked .ensures) in
+    (h, omega arith))  -- span-of-requires
+    (λ c. sym (refused _ (stops _ (rw (c .before .head .given .1) at (c .before .before .before .checked .ensures)))))  -- returns-2
+    (λ c. let m = c .before .before .before .before in
+    let h = rw (m .head2 .given .1) at (m .before .before .checked .ensures) in
+    let within : m .before .before .before .before .args .i < count (m .before .before .before .before .args .dict .now) = omega arith in
+    rw (c .span-of .ensures .start-is, c .span-of .ensures .end-is) (sym (answered _ (goes _ (h .1) ∙ first-pass _ (within, tt))))))  -- returns-3

@@ -1,0 +1,17 @@
+-- `metadata::lead_of` meets its contract: each number is read off the one byte. Assumes nothing.
+use native.Mathlib.Omega.{arith}
+use borrow.Author.Needs.{needs}
+use Rattle.metadata.specs.Dictionary.{version, sorted, width}
+use Rattle.metadata.proofs.lead_of.Statement.{statement}
+use Rattle.metadata.proofs.lead_of.Tie as tie
+
+pub lead-of-spec : {M : Type 1} → statement M
+unfolding version sorted width
+lead-of-spec =
+    tie.close
+    (tie.spec
+    (λ c. search needs)  -- shared-slice-read-wide
+    (λ c κs. search needs)  -- wide-requires
+    (λ c. search needs)  -- add-t10
+    (λ c. let e = c .wide .ensures .0 in
+    record { version-is = rw e; sorted-is = rw e; width-is = rw e; some = omega arith; few = omega arith }))  -- returns
