@@ -89,11 +89,14 @@ says-flip (greater p) = less p
 pub compare-flip : (s t : List ℕ) → compareOf t s ≡ flip (compareOf s t)
 compare-flip s t = compare-of (says-flip (compare-says s t))
 
-before-of : {s t : List ℕ} → Says s t Less → Before s t
-before-of (less p) = p
+pub less-before : (s t : List ℕ) → compareOf s t ≡ Less → Before s t
+less-before s t e = elim (says-of s t Less e) [ less p ↦ p ]
+
+pub greater-before : (s t : List ℕ) → compareOf s t ≡ Greater → Before t s
+greater-before s t e = elim (says-of s t Greater e) [ greater p ↦ p ]
 
 pub compare-trans : (s t u : List ℕ) → compareOf s t ≡ Less → compareOf t u ≡ Less → compareOf s u ≡ Less
-compare-trans s t u p q = compare-of (less (before-trans (before-of (says-of s t Less p)) (before-of (says-of t u Less q))))
+compare-trans s t u p q = compare-of (less (before-trans (less-before s t p) (less-before t u q)))
 
 -- `below` decides `Before`
 pub below-before : (s t : List ℕ) → below s t ≡ true → Before s t
