@@ -1,0 +1,30 @@
+-- A dictionary is accepted, with its entry count and its trimmed end, exactly when the rules of document 01 hold of it (the record
+-- `Dictionary` of specs/Meaning.antt). Assumes nothing.
+use mathlib.Core.Path.{_≡_, _∙_}
+use mathlib.Core.Logic.{_↔_}
+use mathlib.Core.List.{List, [], _∷_}
+use Prim.Native.Nat.{ℕ}
+use Rattle.rules.specs.Rules.{accept}
+use Rattle.rules.specs.Rules.Found.{pass}
+use Rattle.rules.proofs.Laws.{let-through, answered, each-pass}
+use Rattle.metadata.specs.Dictionary.{count, end, entryRules, checks, verdict}
+use Rattle.metadata.specs.Meaning.{Dictionary}
+use Rattle.metadata.proofs.Means.{by-entries, good-passed, good}
+
+module _ (d : List ℕ) (n e : ℕ) where
+  rules-hold : verdict d ≡ accept (n ∷ e ∷ []) → Dictionary d n e
+  unfolding verdict
+  rules-hold v =
+      let through = let-through (checks d) (accept (count d ∷ end d ∷ [])) v in
+      let rules = good d (through .0) in
+      record { texted = rules .texted; entries = rules .entries; counts = cc; ends = cc }
+
+  is-accepted : Dictionary d n e → verdict d ≡ accept (n ∷ e ∷ [])
+  unfolding verdict
+  is-accepted r =
+      let all : checks d ≡ pass = by-entries d (r .texted) ∙ each-pass (entryRules d) (count d) (λ k p. good-passed d k (r .entries k p)) in
+      rw (r .counts, r .ends) (answered _ all)
+
+-- THE THEOREM
+pub accepts : (d : List ℕ) (n e : ℕ) → (verdict d ≡ accept (n ∷ e ∷ [])) ↔ Dictionary d n e
+accepts d n e = (rules-hold d n e, is-accepted d n e)

@@ -1,0 +1,141 @@
+-- What the checks come to, row by row: where all pass, the rules of an accepted dictionary hold; where one stops, that refusal is due.
+-- Accepts.antt and Refuses.antt draw their theorems from it. Assumes nothing.
+use mathlib.Core.Path.{_≡_, refl, sym, _∙_}
+use mathlib.Core.Bool.{Bool, true}
+use mathlib.Core.List.{List, [], _∷_}
+use Prim.Native.Nat.{ℕ, _+_, _-_, _<_}
+use native.Mathlib.Omega.{arith}
+use Rattle.part.specs.Part.{part}
+use Rattle.utf8.proofs.Laws.{text-sound, text-longest, text-whole, text-all}
+use Rattle.names.specs.Order.{Before, below}
+use Rattle.names.proofs.Laws.{below-before, before-below}
+use Rattle.rules.specs.Rules.{Rule, Found, Holds, Passed, first, each}
+use Rattle.rules.specs.Rules.Rule.{_⇒_at_}
+use Rattle.rules.specs.Rules.Found.{pass, stop}
+use Rattle.rules.proofs.Laws.{_&_, false-true, never, first-pass, passed, goes, Meant, Cases, by-rows, by-each, meant-then, meant-map, meant-pass}
+use Rattle.rules.proofs.Laws.Meant.{all-pass, one-stops}
+use Rattle.metadata.specs.Dictionary.{sorted, count, offset, end, region, name, cuts, headRules, regionRules, entryRules, checks}
+use Rattle.metadata.specs.Meaning.{Sized, Versioned, Counted, Placed, Headed, Texted, Cut, InRange, GoodEntry, Dictionary, Refusal}
+use Rattle.metadata.specs.Meaning.Refusal.{too-long, empty, other-version, count-cut, start-sum, start-short, first-offset, end-sum, end-short, no-text, bad-range, not-above}
+use Rattle.metadata.proofs.Laws.{by-region}
+
+-- what each row has to show, from less or for more
+cases-map : {A C : Type 0} {B D : ℕ → ℕ → Type 0} (rows : List Rule) → (A → C) → ((c p : ℕ) → B c p → D c p) → Cases A B rows → Cases C D rows
+cases-map [] f g k = f k
+cases-map ((t ⇒ c at p) ∷ rows) f g k = (λ h. g c p (k .0 h)) & λ h. cases-map rows f g (k .1 h)
+
+module _ (d : List ℕ) where
+  -- THE HEADER
+  head-means : Meant (Headed d) (Refusal d) (first (headRules d))
+  head-means =
+      by-rows (Headed d) (Refusal d) (headRules d)
+      (too-long & λ f10.
+      (λ h. empty (omega arith)) & λ f11.
+      let sized : Sized d = record { not-long = f10; not-empty = f11 } in
+      other-version sized & λ f12.
+      let versioned : Versioned d = record { sized = sized; version-one = f12 } in
+      count-cut versioned & λ f13.
+      let counted : Counted d = record { versioned = versioned; count-inside = f13 } in
+      start-sum counted & λ f14.
+      start-short counted f14 & λ f13′.
+      let placed : Placed d = record { counted = counted; start-fits = f14; start-inside = f13′ } in
+      first-offset placed & λ f15.
+      end-sum placed f15 & λ f14′.
+      end-short placed f15 f14′ & λ f13″.
+      record { placed = placed; first-zero = f15; end-fits = f14′; end-inside = f13″ })
+
+  pub head-passed : Headed d → Passed (headRules d)
+  head-passed h = omega arith
+
+  -- THE REGION
+  region-means : Headed d → Meant (Texted d) (Refusal d) (first (regionRules (region d)))
+  region-means headed =
+      by-rows (Texted d) (Refusal d) (regionRules (region d))
+      ((λ h. no-text headed (record { short = h; is-text = text-sound (region d); longest = text-longest (region d) }))
+      & λ f. record { headed = headed; is-text = text-all (region d) f })
+
+  -- and then the entries decide
+  pub by-entries : Texted d → checks d ≡ first (each (entryRules d) (count d))
+  by-entries t =
+      by-region d (head-passed (t .headed)) (first-pass _ (omega (arith, text-whole (region d) (t .is-text)) & tt))
+      ∙ goes _ refl
+
+  -- AN ENTRY: what is wrong with it
+  pub data Fault (k : ℕ) : ℕ → ℕ → Type 0 where
+    out-of-range : (InRange d k → ⊥) → Fault k 17 k
+    not-greater : InRange d k → sorted d ≡ true → 0 < k → (Before (name d (k - 1)) (name d k) → ⊥) → Fault k 18 k
+
+  cut-holds : (k : ℕ) → Cut d k → Holds (cuts (region d) (offset d k))
+  cut-holds k c = c .inside & c .on-tail
+
+  holds-cut : (k : ℕ) → Holds (cuts (region d) (offset d k)) → Cut d k
+  holds-cut k h = record { inside = h .0; on-tail = h .1 }
+
+  -- the order of names, as the row tests it
+  below-names : (k : ℕ) {b : Bool} → 0 < k → below (part (region d) (offset d (k - 1)) (offset d k)) (part (region d) (offset d k) (offset d (k + 1))) ≡ b
+      → below (name d (k - 1)) (name d k) ≡ b
+  unfolding name
+  below-names k p e = let k-is : k - 1 + 1 ≡ k = omega arith in rw k-is e
+
+  entry-cases : (k : ℕ) → Cases (GoodEntry d k) (Fault k) (entryRules d k)
+  unfolding entryRules
+  entry-cases k =
+      (λ h. out-of-range (λ r. omega arith)) & λ rises.
+      (λ h. out-of-range (λ r. omega arith)) & λ stays.
+      (λ h. out-of-range (λ r. r .start-whole (holds-cut k h))) & λ whole.
+      (λ h. out-of-range (λ r. r .end-whole (holds-cut (k + 1) h))) & λ whole′.
+      let range : InRange d k =
+      record {
+        rises = rises;
+        stays = stays;
+        start-whole = λ c. never (cuts (region d) (offset d k)) whole (cut-holds k c);
+        end-whole = λ c. never (cuts (region d) (offset d (k + 1))) whole′ (cut-holds (k + 1) c);
+      } in
+      (λ h. not-greater range (h .0) (h .1 .0) (λ b. false-true (sym (below-names k (h .1 .0) (h .1 .1)) ∙ before-below b))) & λ above.
+      record { in-range = range; above = λ s p. below-before _ _ (below-names k p (above s p)) }
+
+  entry-means : (k : ℕ) → Meant (GoodEntry d k) (Fault k) (first (entryRules d k))
+  entry-means k = by-rows (GoodEntry d k) (Fault k) (entryRules d k) (entry-cases k)
+
+  -- so a good one passes, and each fault stops
+  pub good-passed : (k : ℕ) → GoodEntry d k → Passed (entryRules d k)
+  good-passed k g = passed (entryRules d k) (go (entry-means k))
+    where
+      go : {f : Found} → Meant (GoodEntry d k) (Fault k) f → f ≡ pass
+      go (all-pass _) = refl
+      go (one-stops (out-of-range n)) = absurd (n (g .in-range))
+      go (one-stops (not-greater r s p n)) = absurd (n (g .above s p))
+
+  pub fault-stops : (k : ℕ) {c p : ℕ} → Fault k c p → first (entryRules d k) ≡ stop c p
+  fault-stops k (out-of-range out) = go (entry-means k)
+    where
+      go : {f : Found} → Meant (GoodEntry d k) (Fault k) f → f ≡ stop 17 k
+      go (all-pass g) = absurd (out (g .in-range))
+      go (one-stops (out-of-range n)) = refl
+      go (one-stops (not-greater r s p n)) = absurd (out r)
+  fault-stops k (not-greater r s p low) = go (entry-means k)
+    where
+      go : {f : Found} → Meant (GoodEntry d k) (Fault k) f → f ≡ stop 18 k
+      go (all-pass g) = absurd (low (g .above s p))
+      go (one-stops (out-of-range n)) = absurd (n r)
+      go (one-stops (not-greater _ _ _ n)) = refl
+
+  -- ALL CHECKS
+  passed-good : (k : ℕ) → Passed (entryRules d k) → GoodEntry d k
+  passed-good k h = meant-pass (entry-means k) (first-pass (entryRules d k) h)
+
+  fault-refuses : Texted d → (k : ℕ) → k < count d → ((j : ℕ) → j < k → GoodEntry d j) → (c p : ℕ) → Fault k c p → Refusal d c p
+  fault-refuses t k q good c p (out-of-range n) = bad-range t q good n
+  fault-refuses t k q good c p (not-greater r s z n) = not-above t q good r s z n
+
+  pub checks-mean : Meant (Dictionary d (count d) (end d)) (Refusal d) (checks d)
+  unfolding checks
+  checks-mean =
+      meant-then _ head-means λ h.
+      meant-then _ (region-means h) λ t.
+      meant-map (λ all. record { texted = t; entries = λ k q. passed-good k (all k q); counts = refl; ends = refl }) (λ c p b. b)
+      (by-each (Refusal d) (entryRules d) (count d) λ k q all.
+      cases-map (entryRules d k) (λ _. tt) (fault-refuses t k q (λ j r. passed-good j (all j r))) (entry-cases k))
+
+  pub good : checks d ≡ pass → Dictionary d (count d) (end d)
+  good e = meant-pass checks-mean e
