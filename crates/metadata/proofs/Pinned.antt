@@ -1,0 +1,125 @@
+-- Each public call's promise fixes its whole answer, and the lent room after it: two answers that meet it are equal. Each answer is read back
+-- out of document 01's numbers, so no two cases have the same. Assumes nothing.
+use mathlib.Core.Path.{_≡_, refl, sym, ap, ap₂, _∙_}
+use mathlib.Core.Bool.{cond}
+use mathlib.Core.List.{List, [], _∷_}
+use Prim.Native.Nat.{ℕ, _+_}
+use lib.Dec.{eqb}
+use Rattle.rules.specs.Rules.{Answer, Found}
+use Rattle.rules.specs.Rules.Answer.{gives}
+use Rattle.rules.specs.Rules.Found.{pass, stop}
+use Rattle.metadata.specs.declared.Refusal.{Refusal}
+use Rattle.metadata.specs.declared.Refusal.the-variants.{TooLong, Empty, Version, Short, Sum, FirstOffset, NotUtf8, Range, NotAbove}
+use Rattle.metadata.specs.declared.Span.{Span}
+use Rattle.metadata.specs.declared.Verdict.{Verdict}
+use Rattle.metadata.specs.declared.Verdict.the-variants as verdict
+use Rattle.metadata.specs.declared.Entry.{Entry}
+use Rattle.metadata.specs.declared.Entry.the-variants as entry
+use Rattle.metadata.specs.declared.Written.{Written}
+use Rattle.metadata.specs.declared.Written.the-variants as written
+use Rattle.metadata.specs.declared.Head.{Head}
+use Rattle.metadata.specs.declared.Head.the-variants as head
+use Rattle.metadata.specs.Dictionary.{sorted, width, count, offset, start, end, checks, verdict as verdictOf, nameAt, emptied, roomAfter}
+use Rattle.metadata.specs.Answers.{refusalNumber, refusalPlace, verdictNumbers, entryNumbers, writtenNumbers}
+use Rattle.metadata.specs.Steps.{CheckedOf, SpanOf}
+
+-- REFUSALS: number and place, read back; `other` where the number is none of theirs
+pub refusalBy : {A : Type 0} → (Refusal → A) → A → ℕ → ℕ → A
+refusalBy is other c p =
+    cond (eqb c 10) (is TooLong)
+    (cond (eqb c 11) (is Empty)
+    (cond (eqb c 12) (is Version)
+    (cond (eqb c 13) (is Short)
+    (cond (eqb c 14) (is Sum)
+    (cond (eqb c 15) (is FirstOffset)
+    (cond (eqb c 16) (is (NotUtf8 p)) (cond (eqb c 17) (is (Range p)) (cond (eqb c 18) (is (NotAbove p)) other))))))))
+
+pub refusal-back : {A : Type 0} (is : Refusal → A) (other : A) (r : Refusal) → refusalBy is other (refusalNumber r) (refusalPlace r) ≡ is r
+unfolding refusalBy
+refusal-back is other TooLong = refl
+refusal-back is other Empty = refl
+refusal-back is other Version = refl
+refusal-back is other Short = refl
+refusal-back is other Sum = refl
+refusal-back is other FirstOffset = refl
+refusal-back is other (NotUtf8 p) = refl
+refusal-back is other (Range k) = refl
+refusal-back is other (NotAbove k) = refl
+
+pub refusal-injective : (r q : Refusal) → refusalNumber r ≡ refusalNumber q → refusalPlace r ≡ refusalPlace q → r ≡ q
+refusal-injective r q c p =
+    sym (refusal-back (λ x. x) TooLong r) ∙ ap₂ (refusalBy (λ x. x) TooLong) c p ∙ refusal-back (λ x. x) TooLong q
+
+-- two values that read back out of the same answer are equal
+by-back : {A B : Type 0} (f : A → B) (back : B → A) → ((a : A) → back (f a) ≡ a) → (a b : A) → f a ≡ f b → a ≡ b
+by-back f back is a b e = sym (is a) ∙ ap back e ∙ is b
+
+-- ANSWERS
+verdictBack : Answer → Verdict
+verdictBack (gives c (n ∷ e ∷ v) p) = verdict.Accepted n e
+verdictBack (gives c (n ∷ []) p) = verdict.Accepted n 0
+verdictBack (gives c [] p) = refusalBy verdict.Refused (verdict.Accepted 0 0) c p
+
+verdict-back : (v : Verdict) → verdictBack (verdictNumbers v) ≡ v
+unfolding verdictBack
+verdict-back (verdict.Refused r) = refusal-back verdict.Refused (verdict.Accepted 0 0) r
+verdict-back (verdict.Accepted n e) = refl
+
+pub verdict-injective : (v u : Verdict) → verdictNumbers v ≡ verdictNumbers u → v ≡ u
+verdict-injective = by-back verdictNumbers verdictBack verdict-back
+
+entryBack : Answer → Entry
+entryBack (gives c (a ∷ e ∷ v) p) = entry.Named (record { start = a; end = e })
+entryBack (gives c (a ∷ []) p) = entry.NoSuchEntry
+entryBack (gives c [] p) = refusalBy entry.Refused entry.NoSuchEntry c p
+
+entry-back : (v : Entry) → entryBack (entryNumbers v) ≡ v
+unfolding entryBack refusalBy
+entry-back (entry.Refused r) = refusal-back entry.Refused entry.NoSuchEntry r
+entry-back entry.NoSuchEntry = refl
+entry-back (entry.Named s) = refl
+
+pub entry-injective : (v u : Entry) → entryNumbers v ≡ entryNumbers u → v ≡ u
+entry-injective = by-back entryNumbers entryBack entry-back
+
+writtenBack : Answer → Written
+writtenBack (gives c v p) = cond (eqb c 42) written.NoRoom written.Written
+
+written-back : (v : Written) → writtenBack (writtenNumbers v) ≡ v
+unfolding writtenBack
+written-back written.NoRoom = refl
+written-back written.Written = refl
+
+pub written-injective : (v u : Written) → writtenNumbers v ≡ writtenNumbers u → v ≡ u
+written-injective = by-back writtenNumbers writtenBack written-back
+
+-- NUMBERS HANDED ON: the one head and the one span that meet their promise
+headBy : List ℕ → Found → Head
+headBy d (stop c p) = refusalBy head.Refused (head.Refused TooLong) c p
+headBy d pass = head.Good (record { width = width d; sorted = sorted d; count = count d; start = start d; end = end d })
+
+head-is : (d : List ℕ) (r : Head) → CheckedOf d r → headBy d (checks d) ≡ r
+unfolding headBy
+head-is d (head.Refused r) e = rw e (refusal-back head.Refused (head.Refused TooLong) r)
+head-is d (head.Good h) (o, e) = rw (e, ← o .width-is, ← o .sorted-is, ← o .count-is, ← o .start-is, ← o .end-is)
+
+span-is : (d : List ℕ) (i : ℕ) (r : Span) → SpanOf d i r → record { start = start d + offset d i; end = start d + offset d (i + 1) } ≡ r
+span-is d i r o = rw (← o .start-is, ← o .end-is)
+
+-- THE THEOREMS, a call each
+pub check-pinned : (d : List ℕ) (r q : Verdict) → verdictNumbers r ≡ verdictOf d → verdictNumbers q ≡ verdictOf d → r ≡ q
+check-pinned d r q a b = verdict-injective r q (a ∙ sym b)
+
+pub get-pinned : (d : List ℕ) (i : ℕ) (r q : Entry) → entryNumbers r ≡ nameAt d i → entryNumbers q ≡ nameAt d i → r ≡ q
+get-pinned d i r q a b = entry-injective r q (a ∙ sym b)
+
+pub checked-pinned : (d : List ℕ) (r q : Head) → CheckedOf d r → CheckedOf d q → r ≡ q
+checked-pinned d r q a b = sym (head-is d r a) ∙ head-is d q b
+
+pub span-pinned : (d : List ℕ) (i : ℕ) (r q : Span) → SpanOf d i r → SpanOf d i q → r ≡ q
+span-pinned d i r q a b = sym (span-is d i r a) ∙ span-is d i q b
+
+-- the answer, and the room after it
+pub empty-pinned : (room : List ℕ) (r q : Written) (after after′ : List ℕ) → writtenNumbers r ≡ emptied room → after ≡ roomAfter room
+    → writtenNumbers q ≡ emptied room → after′ ≡ roomAfter room → (r ≡ q) × (after ≡ after′)
+empty-pinned room r q after after′ a s b t = (written-injective r q (a ∙ sym b), s ∙ sym t)
