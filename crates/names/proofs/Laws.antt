@@ -112,6 +112,13 @@ pub before-below : {s t : List ℕ} → Before s t → below s t ≡ true
 unfolding below
 before-below p = ap isLess (compare-of (less p))
 
+pub not-below : (s t : List ℕ) → (Before s t → ⊥) → below s t ≡ false
+not-below s t n = go (below s t) refl
+  where
+    go : (b : Bool) → below s t ≡ b → below s t ≡ false
+    go true e = absurd (n (below-before s t e))
+    go false e = e
+
 -- What a loop goes by: both lists from the same place.
 module _ (s t : List ℕ) (i : ℕ) where
   pub compare-end : length s ≤ i → length t ≤ i → compareOf (drop i s) (drop i t) ≡ Equal

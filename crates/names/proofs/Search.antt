@@ -9,7 +9,7 @@ use Rattle.names.specs.declared.Order.{Order}
 use Rattle.names.specs.declared.Order.the-variants.{Less, Equal, Greater}
 use Rattle.names.specs.Order.{Before, compareOf}
 use Rattle.names.specs.Search.{isEqual, same, Sought, seek, Rising}
-use Rattle.names.specs.Search.Sought.{nowhere, at}
+use Rattle.names.specs.Search.Sought.{nowhere, here}
 use Rattle.names.proofs.Laws.{compare-refl, compare-equal, less-before, greater-before, before-trans, before-ne}
 
 -- `same` decides equality
@@ -34,13 +34,13 @@ not-same s t n = go (same s t) refl
     go false e = e
 
 module _ (name : ℕ → List ℕ) (query : List ℕ) where
-  -- what `seek` answers, it says: at k, k is below n and its name is the query; nowhere, no name is
-  pub seek-at : (n k : ℕ) → seek name query n ≡ at k → (k < n) × (name k ≡ query)
+  -- what `seek` answers, it says: here k, k is below n and its name is the query; nowhere, no name is
+  pub seek-at : (n k : ℕ) → seek name query n ≡ here k → (k < n) × (name k ≡ query)
   unfolding seek
   seek-at zero k e = let z : _≡_ {A = ℕ} 0 1 = cc in absurd (omega arith)
   seek-at (suc n) k e = go (same (name n) query) refl (seek-at n k) e
     where
-      go : (b : Bool) → same (name n) query ≡ b → (seek name query n ≡ at k → (k < n) × (name k ≡ query)) → cond b (at n) (seek name query n) ≡ at k → (k < suc n) × (name k ≡ query)
+      go : (b : Bool) → same (name n) query ≡ b → (seek name query n ≡ here k → (k < n) × (name k ≡ query)) → cond b (here n) (seek name query n) ≡ here k → (k < suc n) × (name k ≡ query)
       go true f r e = let z : n ≡ k = cc in (omega arith, rw (← z) (is-same (name n) query f))
       go false f r e = let w = r e in (omega (arith, w .0), w .1)
 
@@ -49,20 +49,20 @@ module _ (name : ℕ → List ℕ) (query : List ℕ) where
   seek-nowhere zero e k p h = omega arith
   seek-nowhere (suc n) e k p h = go (same (name n) query) refl (λ f q. seek-nowhere n f k q h) e (ℕ-discrete k n)
     where
-      go : (b : Bool) → same (name n) query ≡ b → (seek name query n ≡ nowhere → k < n → ⊥) → cond b (at n) (seek name query n) ≡ nowhere → Dec (k ≡ n) → ⊥
+      go : (b : Bool) → same (name n) query ≡ b → (seek name query n ≡ nowhere → k < n → ⊥) → cond b (here n) (seek name query n) ≡ nowhere → Dec (k ≡ n) → ⊥
       go true f r e d = let z : _≡_ {A = ℕ} 0 1 = cc in omega arith
       go false f r e (yes q) = let z : _≡_ {A = Bool} false true = sym f ∙ same-is (name n) query (rw (← q) h) in let y : _≡_ {A = ℕ} 0 1 = cc in omega arith
       go false f r e (no q) = r e (omega arith)
 
   -- and it answers what is so: the last of equal names, or nowhere
-  pub seek-last : (n k : ℕ) → k < n → name k ≡ query → ((j : ℕ) → k < j → j < n → name j ≡ query → ⊥) → seek name query n ≡ at k
+  pub seek-last : (n k : ℕ) → k < n → name k ≡ query → ((j : ℕ) → k < j → j < n → name j ≡ query → ⊥) → seek name query n ≡ here k
   unfolding seek
   seek-last zero k p h only = absurd (omega arith)
   seek-last (suc n) k p h only =
       go (ℕ-discrete k n) (λ q. seek-last n k q h (λ j a b. only j a (omega arith)))
     where
-      go : Dec (k ≡ n) → (k < n → seek name query n ≡ at k) → cond (same (name n) query) (at n) (seek name query n) ≡ at k
-      go (yes q) r = rw (same-is (name n) query (rw (← q) h)) (ap at (sym q))
+      go : Dec (k ≡ n) → (k < n → seek name query n ≡ here k) → cond (same (name n) query) (here n) (seek name query n) ≡ here k
+      go (yes q) r = rw (same-is (name n) query (rw (← q) h)) (ap here (sym q))
       go (no q) r = rw (not-same (name n) query (only n (omega arith) (omega arith))) (r (omega arith))
 
   pub seek-none : (n : ℕ) → ((k : ℕ) → k < n → name k ≡ query → ⊥) → seek name query n ≡ nowhere
@@ -105,7 +105,7 @@ module _ (name : ℕ → List ℕ) (query : List ℕ) where
           go k p q (yes w) = before-trans (greater-before _ _ e) (rising mid k w q)
           go k p q (no w) = let z : k ≡ mid = omega arith in rw z (greater-before _ _ e)
 
-      pub between-equal : compareOf (name mid) query ≡ Equal → seek name query n ≡ at mid
+      pub between-equal : compareOf (name mid) query ≡ Equal → seek name query n ≡ here mid
       between-equal e =
           let h = compare-equal (name mid) query e in
           seek-last n mid inside h (λ j p q g. before-ne (rising mid j p q) (h ∙ sym g))

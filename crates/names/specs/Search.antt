@@ -18,12 +18,12 @@ same s t = isEqual (compareOf s t)
 
 pub data Sought : Type 0 where
   nowhere : Sought
-  at : ℕ → Sought
+  here : ℕ → Sought
 
 -- which of the names of 0, 1 and so on up to n is the query: one after another, from the last
 unfoldable pub seek : (ℕ → List ℕ) → List ℕ → ℕ → Sought
 seek name query zero = nowhere
-seek name query (suc n) = cond (same (name n) query) (at n) (seek name query n)
+seek name query (suc n) = cond (same (name n) query) (here n) (seek name query n)
 
 -- the names up to n are in order, each above all before it
 abbrev pub Rising : (ℕ → List ℕ) → ℕ → Type 0

@@ -303,3 +303,24 @@ cut-lifted lifted (stop c p) g x k e n = go (lifted c) refl
     go : (b : Bool) → lifted c ≡ b → lifted c ≡ true
     go true w = w
     go false w = stop-pass (sym (k w) ∙ e)
+
+-- TWO FAMILIES OF ONE MEANING
+
+-- what nothing lifts stays the same
+pub stays-same : (f g : Found) → Stays (λ _. false) f g → f ≡ g
+stays-same pass g k = sym k
+stays-same (stop c p) g k = sym (k refl)
+
+-- families whose tables come to the same wherever all before passed
+pub each-alike : (f g : ℕ → List Rule) (n : ℕ) → ((k : ℕ) → k < n → AllPassed f k → first (f k) ≡ first (g k)) → first (each f n) ≡ first (each g n)
+unfolding each
+each-alike f g zero h = refl
+each-alike f g (suc n) h =
+    first-append (each f n) (f n)
+    ∙ go (first (each f n)) refl (each-alike f g n (λ k p. h k (omega arith))) (λ e. h n (omega arith) (each-passed f n e))
+    ∙ sym (first-append (each g n) (g n))
+  where
+    go : (x : Found) → first (each f n) ≡ x → first (each f n) ≡ first (each g n) → (first (each f n) ≡ pass → first (f n) ≡ first (g n))
+        → (first (each f n) orElse first (f n)) ≡ (first (each g n) orElse first (g n))
+    go pass e same next = goes _ e ∙ next e ∙ sym (goes _ (sym same ∙ e))
+    go (stop c p) e same next = stops _ e ∙ sym (stops _ (sym same ∙ e))

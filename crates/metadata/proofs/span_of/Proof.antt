@@ -9,11 +9,11 @@ pub span-of-spec : {M : Type 1} → statement M
 span-of-spec =
     tie.close
     (tie.spec
-    (λ c κs. search needs) -- offset-at-requires
-    (λ c. search needs) -- add-t7
-    (λ c. search needs) -- add-offset-at
-    (λ c κs. search needs) -- offset-at-requires-2
-    (λ c. search needs) -- add-t10
+    (λ c κs. search needs)  -- offset-at-requires
+    (λ c. search needs)  -- add-t7
+    (λ c. search needs)  -- add-offset-at
+    (λ c κs. search needs)  -- offset-at-requires-2
+    (λ c. search needs)  -- add-t10
     (λ c. let s = c .before .before .before in
     let d = s .args .dict .now in
     let i = s .args .i in
@@ -25,4 +25,4 @@ span-of-spec =
       rises = omega arith;
       inside = omega (arith, end-is d, region-length d (omega arith));
       name-is = rw (header .start-is, c .before .offset-at .ensures .0, c .offset-at2 .ensures .0) (name-part d i (omega arith) (r .1));
-    })) -- returns
+    }))  -- returns

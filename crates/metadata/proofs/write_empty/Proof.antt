@@ -16,14 +16,14 @@ unfolding emptied roomAfter
 write-empty-spec =
     tie.close
     (tie.spec
-    (λ c. (sym (refused _ (first-at 0 _ (c .if1 .taken))), rw (lt-ltb _ _ (c .if1 .taken)))) -- returns
-    (λ c. search needs) -- element-copy-out-room
-    (λ c. search needs) -- slice-write-room
-    (λ c. search needs) -- element-copy-out-room-2
-    (λ c. simp length-set (omega arith)) -- slice-write-room-2
-    (λ c. search needs) -- element-copy-out-room-3
-    (λ c. search needs) -- slice-write-room-3
-    (λ c. search needs) -- same-length
+    (λ c. (sym (refused _ (first-at 0 _ (c .if1 .taken))), rw (lt-ltb _ _ (c .if1 .taken))))  -- returns
+    (λ c. search needs)  -- element-copy-out-room
+    (λ c. search needs)  -- slice-write-room
+    (λ c. search needs)  -- element-copy-out-room-2
+    (λ c. simp length-set (omega arith))  -- slice-write-room-2
+    (λ c. search needs)  -- element-copy-out-room-3
+    (λ c. search needs)  -- slice-write-room-3
+    (λ c. search needs)  -- same-length
     (λ c. let room = c .before .before .before .before .before .args .room .now in
     let enough : 3 ≤ length room = omega arith in
-    (sym (answered _ (first-pass _ (enough, tt))), rw (le-ltb _ _ enough) (sets-eq emptyBytes room 0 enough)))) -- returns-2
+    (sym (answered _ (first-pass _ (enough, tt))), rw (le-ltb _ _ enough) (sets-eq emptyBytes room 0 enough))))  -- returns-2

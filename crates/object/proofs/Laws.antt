@@ -1,0 +1,127 @@
+-- Where the layer's numbers stand, and by which table its checks are settled. Assumes nothing.
+use mathlib.Core.Path.{_≡_, refl, _∙_}
+use mathlib.Core.Bool.{Bool, true, false, cond, _&&_, _||_}
+use mathlib.Core.List.{List}
+use Prim.Native.Nat.{ℕ, _+_, _-_, _*_, _≤_, _<_}
+use native.Mathlib.Nat.{mul-le-mul-left, mul-le-mul-right}
+use native.Mathlib.Numerals.{add-one}
+use native.Mathlib.Omega.{arith}
+use borrow.Author.Tests.{ltb-true}
+use lib.Dec.{ltb, leb}
+use lib.ListN.{length, drop}
+use Rattle.width.specs.Width.{le}
+use Rattle.names.specs.Search.{Rising}
+use Rattle.names.proofs.Laws.{below-before}
+use Rattle.names.proofs.Search.{rising-all}
+use Rattle.rules.specs.Rules.{Found, first, each, Passed, _orElse_}
+use Rattle.rules.specs.Rules.Found.{pass, stop}
+use Rattle.rules.proofs.Laws.{both-pass, stops, goes, first-pass, each-passed}
+use Rattle.metadata.specs.Dictionary as dictionary
+use Rattle.object.specs.Object.{offsetWidth, idWidth, count, idsStart, id, offsetsStart, offset, start, end, fieldName, headRules, nameRules, offsetRules, checks, nearer, leastAbove}
+use Rattle.object.specs.Meaning.{InRegion}
+
+-- PLACES
+
+module _ (o : List ℕ) where
+  -- in their order
+  pub ids-before : idsStart o ≤ offsetsStart o
+  unfolding offsetsStart
+  ids-before = omega arith
+
+  pub offsets-before : offsetsStart o + offsetWidth o ≤ start o
+  unfolding start
+  offsets-before = omega (arith, mul-le-mul-left {m = 1} {n = count o + 1} (offsetWidth o) (omega arith))
+
+  pub start-before : start o ≤ end o
+  unfolding end
+  start-before = omega arith
+
+  pub end-is : end o ≡ start o + offset o (count o)
+  unfolding end
+  end-is = refl
+
+  -- the header holds id k, and offset k
+  pub id-inside : (w k : ℕ) → w ≡ idWidth o → k < count o → idsStart o + w * k + w ≤ offsetsStart o
+  unfolding offsetsStart
+  id-inside w k e h = rw e (omega (arith, mul-le-mul-left {m = k + 1} {n = count o} (idWidth o) (omega arith)))
+
+  pub offset-inside : (w k : ℕ) → w ≡ offsetWidth o → k ≤ count o → offsetsStart o + w * k + w ≤ start o
+  unfolding start
+  offset-inside w k e h = rw e (omega (arith, mul-le-mul-left (offsetWidth o) h))
+
+  -- the last offset stands just before the region
+  pub last-is : {w r : ℕ} (v : ℕ) → w ≡ offsetWidth o → v ≡ start o → r ≡ le w (drop (v - w) o) → r ≡ offset o (count o)
+  unfolding start offset
+  last-is v p q e =
+      let at : start o - offsetWidth o ≡ offsetsStart o + offsetWidth o * count o = omega arith in
+      e ∙ rw (p, q, at)
+
+  -- there are fewer fields than bytes
+  pub count-below : count o < start o
+  unfolding start offsetWidth
+  count-below = omega (arith, mul-le-mul-right {m = 1} {n = offsetWidth o} (count o + 1) (omega arith))
+
+-- THE CHECKS, BY WHERE THEY ARE SETTLED
+
+-- what all checks passing says of each
+pub record Passes (d o : List ℕ) : Type 0 where
+  pub over : dictionary.checks d ≡ pass
+  pub header : first (headRules o) ≡ pass
+  pub names : first (each (nameRules d o) (count o)) ≡ pass
+  pub offsets : first (each (offsetRules o) (count o)) ≡ pass
+
+module _ (d o : List ℕ) where
+  pub passes : checks d o ≡ pass → Passes d o
+  unfolding checks
+  passes e =
+      let a = both-pass (dictionary.checks d) _ e in
+      let b = both-pass (first (headRules o)) _ (a .1) in
+      let c = both-pass (first (each (nameRules d o) (count o))) _ (b .1) in
+      record { over = a .0; header = b .0; names = c .0; offsets = c .1 }
+
+  pub by-dictionary : {c p : ℕ} → dictionary.checks d ≡ stop c p → checks d o ≡ stop c p
+  unfolding checks
+  by-dictionary e = stops _ e
+
+  module _ (over : dictionary.checks d ≡ pass) where
+    pub by-head : {c p : ℕ} → first (headRules o) ≡ stop c p → checks d o ≡ stop c p
+    unfolding checks
+    by-head e = goes _ over ∙ stops _ e
+
+    pub by-names : Passed (headRules o) → {f : Found} → first (each (nameRules d o) (count o)) ≡ f → checks d o ≡ (f orElse first (each (offsetRules o) (count o)))
+    unfolding checks
+    by-names h e = goes _ over ∙ goes _ (first-pass (headRules o) h) ∙ rw e
+
+  -- WHAT PASSING SAYS OF THE FIELDS
+  module _ (e : checks d o ≡ pass) where
+    pub entry-of : (k : ℕ) → k < count o → id o k < dictionary.count d
+    unfolding nameRules
+    entry-of k p = each-passed (nameRules d o) (count o) (passes e .names) k p .0
+
+    pub names-rise : Rising (fieldName d o) (count o)
+    unfolding nameRules
+    names-rise =
+        rising-all (fieldName d o) (count o) λ k p q.
+        below-before _ _ (each-passed (nameRules d o) (count o) (passes e .names) k q .1 .0 p)
+
+    pub in-region : (k : ℕ) → k < count o → InRegion o k
+    unfolding offsetRules
+    in-region k p = each-passed (offsetRules o) (count o) (passes e .offsets) k p .0
+
+-- THE LEAST ABOVE
+
+pub nearer-within : (x best y m : ℕ) → x ≤ best → best < m → y < m → (x ≤ nearer x best y) × (nearer x best y < m)
+nearer-within x best y m p q r = go (ltb x y) refl (leb best x || ltb y best)
+  where
+    go : (u : Bool) → ltb x y ≡ u → (v : Bool) → (x ≤ cond (u && v) y best) × (cond (u && v) y best < m)
+    go true e true = (omega (arith, ltb-true x y e), r)
+    go true e false = (p, q)
+    go false e v = (p, q)
+
+pub least-none : (f : ℕ → ℕ) (x : ℕ) → x ≡ leastAbove f x 0
+unfolding leastAbove
+least-none f x = refl
+
+pub least-more : (f : ℕ → ℕ) (x k : ℕ) {best y : ℕ} → best ≡ leastAbove f x k → y ≡ f k → nearer x best y ≡ leastAbove f x (k + 1)
+unfolding leastAbove
+least-more f x k p q = rw (p, q, add-one k)

@@ -1,0 +1,4 @@
+pub mod Laws
+pub mod ByIds
+pub mod Rows
+pub mod Finds

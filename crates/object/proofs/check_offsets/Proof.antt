@@ -1,0 +1,40 @@
+-- `object::check_offsets` meets its contract: the loop keeps that all fields before k pass. Assumes nothing.
+use mathlib.Core.Path.{_≡_, refl, sym, _∙_}
+use Prim.Native.Nat.{_+_, _-_, _≤_, _<_}
+use native.Mathlib.Omega.{arith}
+use borrow.Author.Needs.{needs}
+use Rattle.rules.specs.Rules.{first, each}
+use Rattle.rules.specs.Rules.Found.{pass}
+use Rattle.rules.proofs.Laws.{first-at, first-pass, each-none, each-more, each-stop}
+use Rattle.object.specs.Object.{count as countOf, offsetRules}
+use Rattle.object.proofs.Laws.{start-before, end-is}
+use Rattle.object.proofs.check_offsets.Statement.{statement}
+use Rattle.object.proofs.check_offsets.Tie as tie
+
+abbrev Inv-loop : tie.InvT-loop
+Inv-loop object l count length k₀ k = (k ≤ count) × (first (each (offsetRules object) k) ≡ pass)
+
+abbrev μ-loop : tie.MeasureT-loop
+μ-loop object l count length k₀ k = count - k
+
+pub check-offsets-spec : {M : Type 1} → statement M
+unfolding offsetRules
+check-offsets-spec =
+    tie.close
+    (tie.spec
+    Inv-loop
+    μ-loop
+    (λ c. omega arith)  -- sub-length
+    (λ c. (omega arith, each-none _))  -- loop-holds
+    (λ c κs. omega arith)  -- offset-at-requires
+    (λ c. let l = c .before .before .before .loop in
+    let o = c .before .before .before .before .before .before .args .object .now in
+    sym (each-stop _ (l .k) _ (l .inv .1) (first-at 0 (offsetRules o (l .k)) (omega (arith, start-before o, end-is o))) (omega arith)))  -- returns
+    (λ c. omega arith)  -- add-k
+    (λ c. omega arith)  -- loop-less
+    (λ c. let l = c .before .before .before .loop in
+    let o = c .before .before .before .before .before .before .args .object .now in
+    (omega arith, each-more _ (l .k) (l .inv .1) ∙ first-pass (offsetRules o (l .k)) (omega (arith, start-before o, end-is o), tt)))  -- loop-again
+    (λ c. let l = c .before .loop in
+    let all : l .k ≡ countOf (c .before .before .before .before .args .object .now) = omega arith in
+    rw (← all) (sym (l .inv .1))))  -- returns-2

@@ -1,0 +1,30 @@
+-- `object::places_of` meets its contract: widths of at most four keep the sums within 64 bits. Assumes nothing.
+use Prim.Native.Nat.{_+_}
+use native.Mathlib.Nat.{mul-le-mul-right}
+use native.Mathlib.Omega.{arith}
+use borrow.Author.Needs.{needs}
+use Rattle.object.specs.Object.{count, idsStart, offsetsStart, start}
+use Rattle.object.proofs.places_of.Statement.{statement}
+use Rattle.object.proofs.places_of.Tie as tie
+
+pub places-of-spec : {M : Type 1} → statement M
+unfolding count idsStart offsetsStart start
+places-of-spec =
+    tie.close
+    (tie.spec
+    (λ c κs. search needs)  -- unpack-u32-requires
+    (λ c. search needs)  -- add-offsets
+    (λ c. omega (arith, mul-le-mul-right (c .before .unpack-u32 .result) (c .before .before .before .pre .0 .id-few)))  -- mul-offsets
+    (λ c. omega (arith, mul-le-mul-right (c .before .unpack-u32 .result) (c .before .before .before .pre .0 .id-few)))  -- add-offsets-2
+    (λ c. search needs)  -- add-t6
+    (λ c. omega (arith, mul-le-mul-right (c .before .before .unpack-u32 .result + 1) (c .before .before .before .before .pre .0 .offset-few)))  -- mul-t7
+    (λ c. let l = c .before .before .before .before .pre .0 in
+    let n = c .before .before .unpack-u32 .result in
+    omega (arith, mul-le-mul-right n (l .id-few), mul-le-mul-right (n + 1) (l .offset-few)))  -- add-t8
+    (λ c. let l = c .before .before .before .before .pre .0 in
+    let e = c .before .before .unpack-u32 .ensures .is in
+    record {
+      count-is = rw (e, l .count-width-is);
+      offsets-is = rw (e, l .count-width-is, l .id-width-is);
+      start-is = rw (e, l .count-width-is, l .id-width-is, l .offset-width-is);
+    }))  -- returns

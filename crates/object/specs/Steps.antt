@@ -1,0 +1,104 @@
+-- What the steps of the layer's check, the lookup and the listing answer each other, in the words of Object.antt. Assumes nothing.
+use mathlib.Core.Path.{_≡_}
+use mathlib.Core.List.{List}
+use Prim.Native.Nat.{ℕ, _≤_}
+use lib.ListN.{length}
+use Rattle.names.specs.Search.{Sought}
+use Rattle.names.specs.Search.Sought.{nowhere, here}
+use Rattle.rules.specs.Rules.{Found, first, Passed}
+use Rattle.rules.specs.Rules.Found.{pass, stop}
+use Rattle.metadata.specs.Steps as dictionary
+use Rattle.metadata.specs.declared.Header.{Header}
+use Rattle.metadata.specs.declared.Head.the-variants as dictionary-head
+use Rattle.object.specs.declared.Refusal.{Refusal}
+use Rattle.object.specs.declared.Lead.{Lead}
+use Rattle.object.specs.declared.Places.{Places}
+use Rattle.object.specs.declared.Layer.{Layer}
+use Rattle.object.specs.declared.Head.{Head}
+use Rattle.object.specs.declared.Head.the-variants as head
+use Rattle.object.specs.declared.Outcome.{Outcome}
+use Rattle.object.specs.declared.Outcome.the-variants as outcome
+use Rattle.object.specs.declared.Message.{Message}
+use Rattle.object.specs.declared.Opening.{Opening}
+use Rattle.object.specs.declared.Opening.the-variants as opening
+use Rattle.object.specs.declared.Search.{Search}
+use Rattle.object.specs.declared.Search.the-variants as search
+use Rattle.object.specs.declared.Place.{Place}
+use Rattle.object.specs.Object.{basicType, offsetWidth, idWidth, countWidth, count, idsStart, id, offsetsStart, offset, start, end, headRules, checks, lookup, startOf, endOf}
+use Rattle.object.specs.Answers.{refusalNumber, refusalPlace}
+
+abbrev pub stopOf : Refusal → Found
+stopOf r = stop (refusalNumber r) (refusalPlace r)
+
+-- byte 0
+pub record LeadOf (o : List ℕ) (l : Lead) : Type 0 where
+  pub type-is : l .«basic_type» ≡ basicType o
+  pub id-width-is : l .«id_width» ≡ idWidth o
+  pub id-some : 1 ≤ l .«id_width»
+  pub id-few : l .«id_width» ≤ 4
+  pub offset-width-is : l .«offset_width» ≡ offsetWidth o
+  pub offset-some : 1 ≤ l .«offset_width»
+  pub offset-few : l .«offset_width» ≤ 4
+  pub count-width-is : l .«count_width» ≡ countWidth o
+  pub count-some : 1 ≤ l .«count_width»
+  pub count-few : l .«count_width» ≤ 4
+
+-- the count, and where the offsets and the region start
+pub record PlacesOf (o : List ℕ) (p : Places) : Type 0 where
+  pub count-is : p .count ≡ count o
+  pub offsets-is : p .offsets ≡ offsetsStart o
+  pub start-is : p .start ≡ start o
+
+-- the numbers of a header whose checks passed
+pub record LayerOf (o : List ℕ) (l : Layer) : Type 0 where
+  pub passes : Passed (headRules o)
+  pub id-width-is : l .«id_width» ≡ idWidth o
+  pub id-some : 1 ≤ l .«id_width»
+  pub id-few : l .«id_width» ≤ 4
+  pub offset-width-is : l .«offset_width» ≡ offsetWidth o
+  pub offset-some : 1 ≤ l .«offset_width»
+  pub offset-few : l .«offset_width» ≤ 4
+  pub count-is : l .count ≡ count o
+  pub ids-is : l .ids ≡ idsStart o
+  pub offsets-is : l .offsets ≡ offsetsStart o
+  pub start-is : l .start ≡ start o
+  pub end-is : l .end ≡ end o
+  pub rises : l .start ≤ l .end
+
+abbrev pub HeadOf : List ℕ → Head → Type 0
+HeadOf o (head.Refused r) = first (headRules o) ≡ stopOf r
+HeadOf o (head.Good l) = LayerOf o l
+
+abbrev pub foundOf : Outcome → Found
+foundOf (outcome.Refused r) = stopOf r
+foundOf outcome.Pass = pass
+
+-- h is of a dictionary that passed its checks
+abbrev pub Over : List ℕ → Header → Type 0
+Over d h = dictionary.CheckedOf d (dictionary-head.Good h)
+
+-- all checks of the layer, over such a dictionary
+abbrev pub CheckedOf : List ℕ → List ℕ → Head → Type 0
+CheckedOf d o (head.Refused r) = checks d o ≡ stopOf r
+CheckedOf d o (head.Good l) = LayerOf o l × (checks d o ≡ pass)
+
+-- a dictionary and an object that passed all checks
+pub record MessageOf (d o : List ℕ) (m : Message) : Type 0 where
+  pub over : Over d (m .header)
+  pub layered : LayerOf o (m .layer)
+  pub passes : checks d o ≡ pass
+
+abbrev pub OpeningOf : List ℕ → List ℕ → Opening → Type 0
+OpeningOf d o (opening.Refused r) = checks d o ≡ stopOf r
+OpeningOf d o (opening.Open m) = MessageOf d o m
+
+abbrev pub soughtOf : Search → Sought
+soughtOf search.Nowhere = nowhere
+soughtOf (search.At k) = here k
+
+-- where the child lies in the object
+pub record PlaceOf (d o q : List ℕ) (p : Place) : Type 0 where
+  pub start-is : p .start ≡ startOf (lookup d o q)
+  pub end-is : p .end ≡ endOf (lookup d o q)
+  pub rises : p .start ≤ p .end
+  pub inside : p .end ≤ length o
