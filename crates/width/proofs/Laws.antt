@@ -1,13 +1,13 @@
 -- Laws of little-endian numbers, each once over the width. Assumes nothing.
-use mathlib.Core.Path.{_≡_, refl, sym, ap, _∙_}
+use mathlib.Core.Path.{_≡_, refl, ap, _∙_}
 use mathlib.Core.List.{List, [], _∷_, _++_}
-use Prim.Native.Nat.{ℕ, zero, suc, _+_, _*_, _^_, _≤_, _<_, _-_}
+use Prim.Native.Nat.{ℕ, zero, suc, _+_, _*_, _^_, _%_, _/_, _≤_, _<_}
 use native.Mathlib.Nat.{pow-succ', one-le-pow, mul-assoc, mul-zero, add-zero}
 use native.Mathlib.Numerals.{add-one}
 use native.Mathlib.Omega.{arith}
-use lib.ListN.{length, take, drop, getD, length-drop, drop-of-length-le}
-use lib.Seq.{slice, drop-append-le, getD-drop}
-use Rattle.width.specs.Width.{le}
+use lib.ListN.{length, take, drop, getD, length-drop}
+use lib.Seq.{drop-append-le, getD-drop}
+use Rattle.width.specs.Width.{le, bytesOf}
 
 -- each element is a byte
 abbrev pub Bytes : List ℕ → Type 0
@@ -30,6 +30,20 @@ le-append (suc w) (b ∷ s) t h = ap (λ (k : ℕ). b + 256 * k) (le-append w s 
 pub le-append-at : (w at : ℕ) (s t : List ℕ) → at + w ≤ length s → le w (drop at (s ++ t)) ≡ le w (drop at s)
 le-append-at w at s t h =
     rw (drop-append-le at s t (omega arith)) (le-append w (drop at s) t (simp length-drop (omega arith)))
+
+-- INSIDE A PART, a number is the one of the whole
+le-take : (w n : ℕ) (s : List ℕ) → w ≤ n → le w (take n s) ≡ le w s
+unfolding le
+le-take zero n s h = refl
+le-take (suc w) zero s h = absurd (omega arith)
+le-take (suc w) (suc n) [] h = refl
+le-take (suc w) (suc n) (b ∷ s) h = ap (λ (k : ℕ). b + 256 * k) (le-take w n s (omega arith))
+
+pub le-inside : (w at n : ℕ) (s : List ℕ) → at + w ≤ n → le w (drop at (take n s)) ≡ le w (drop at s)
+le-inside w zero n s h = le-take w n s (omega arith)
+le-inside w (suc at) zero s h = absurd (omega arith)
+le-inside w (suc at) (suc n) [] h = refl
+le-inside w (suc at) (suc n) (b ∷ s) h = le-inside w at n s (omega arith)
 
 -- ONE BYTE MORE, on top: the step of the reader
 none : (w : ℕ) → le w [] ≡ 0
@@ -56,3 +70,21 @@ unpack-first at s e =
 
 pub unpack-more : (w at : ℕ) (s : List ℕ) {r b : ℕ} → r ≡ le w (drop at s) → b ≡ getD s (at + w) 0 → r + 256 ^ w * b ≡ le (w + 1) (drop at s)
 unpack-more w at s p q = rw (p, q, add-one w, ← getD-drop at s w 0) (le-top w (drop at s))
+
+-- WRITTEN AND READ
+
+pub bytes-length : (w n : ℕ) → length (bytesOf w n) ≡ w
+unfolding bytesOf
+bytes-length zero n = refl
+bytes-length (suc w) n = ap suc (bytes-length w (n / 256))
+
+-- what is written is read, where it fits
+pub le-bytes : (w n : ℕ) (s : List ℕ) → n < 256 ^ w → le w (bytesOf w n ++ s) ≡ n
+unfolding le bytesOf
+le-bytes zero n s h = omega arith
+le-bytes (suc w) n s h = omega (arith, le-bytes w (n / 256) s (omega (arith, pow-succ' 256 w)))
+
+-- four bytes, one by one
+pub bytes-four : (n : ℕ) → bytesOf 4 n ≡ n % 256 ∷ n / 256 % 256 ∷ n / 256 / 256 % 256 ∷ n / 256 / 256 / 256 % 256 ∷ []
+unfolding bytesOf
+bytes-four n = refl

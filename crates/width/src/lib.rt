@@ -2,7 +2,8 @@
 ghost use mathlib.Core.Path.{_≡_};
 ghost use Prim.Native.Nat.{_+_, _≤_, _<_};
 ghost use lib.ListN.{length, drop};
-ghost use Rattle.width.specs.Width.{Unpacked};
+ghost use lib.Seq.{sets};
+ghost use Rattle.width.specs.Width.{Unpacked, bytesOf};
 
 // A byte as a number, with its bound.
 pub fn wide(x: u8) -> usize
@@ -30,4 +31,18 @@ pub fn unpack_u32(s: &[u8], at: usize, width: usize) -> usize
         return three;
     }
     three + 0x100_0000 * wide(s[at + 3])
+}
+
+// The low 32 bits of a number, into the four bytes at `at`, the lowest byte first.
+pub fn pack_u32(out: &mut [u8], at: usize, n: usize)
+    requires { ⌜ at + 4 ≤ length (now out) ⌝ }
+    ensures { λ _. ⌜ now (out .exit) ≡ sets (now (out .entry)) at (bytesOf 4 n) ⌝ }
+{
+    let second = n / 256;
+    let third = second / 256;
+    let fourth = third / 256;
+    out[at] = (n % 256) as u8;
+    out[at + 1] = (second % 256) as u8;
+    out[at + 2] = (third % 256) as u8;
+    out[at + 3] = (fourth % 256) as u8;
 }
