@@ -19,11 +19,12 @@ module _ (d : List ℕ) (n e : ℕ) where
       let rules = good d (through .0) in
       record { texted = rules .texted; entries = rules .entries; counts = cc; ends = cc }
 
+  pub all-pass : Dictionary d n e → checks d ≡ pass
+  all-pass r = by-entries d (r .texted) ∙ each-pass (entryRules d) (count d) (λ k p. good-passed d k (r .entries k p))
+
   is-accepted : Dictionary d n e → verdict d ≡ accept (n ∷ e ∷ [])
   unfolding verdict
-  is-accepted r =
-      let all : checks d ≡ pass = by-entries d (r .texted) ∙ each-pass (entryRules d) (count d) (λ k p. good-passed d k (r .entries k p)) in
-      rw (r .counts, r .ends) (answered _ all)
+  is-accepted r = rw (r .counts, r .ends) (answered _ (all-pass r))
 
 -- THE THEOREM
 pub accepts : (d : List ℕ) (n e : ℕ) → (verdict d ≡ accept (n ∷ e ∷ [])) ↔ Dictionary d n e

@@ -64,7 +64,8 @@ text-passed r e = text-all r (passed (regionRules r) e .0)
 
 module _ (d : List ℕ) where
   -- the rows of entry k, from the numbers
-  pub entry-is : (k : ℕ) {b : Bool} {r : List ℕ} {p a e : ℕ} → b ≡ sorted d → r ≡ region d → p ≡ offset d (k - 1) → a ≡ offset d k → e ≡ offset d (k + 1) → first (entryRules d k) ≡ first (entryRows b r p a e k)
+  pub entry-is : (k : ℕ) {b : Bool} {r : List ℕ} {p a e : ℕ} → b ≡ sorted d → r ≡ region d → p ≡ offset d (k - 1) → a ≡ offset d k → e ≡ offset d (k + 1)
+      → first (entryRules d k) ≡ first (entryRows b r p a e k)
   unfolding entryRules
   entry-is k e1 e2 e3 e4 e5 = rw (e1, e2, e3, e4, e5)
 

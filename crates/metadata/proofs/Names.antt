@@ -3,7 +3,7 @@
 use mathlib.Core.Path.{_≡_}
 use mathlib.Core.Bool.{true}
 use mathlib.Core.List.{List, [], _∷_}
-use Prim.Native.Nat.{ℕ, zero, suc, _+_, _-_, _<_}
+use Prim.Native.Nat.{ℕ, _+_, _-_, _<_}
 use native.Mathlib.Decide.{decLt}
 use native.Mathlib.Omega.{arith}
 use lib.ListN.{length, take}
@@ -13,8 +13,8 @@ use Rattle.walk.proofs.Laws.{items-rest}
 use Rattle.utf8.specs.Utf8.{Text, Char, char}
 use Rattle.utf8.proofs.Laws.{chars}
 use Rattle.utf8.proofs.Bounds.{bound}
-use Rattle.names.specs.Order.{Before}
-use Rattle.names.proofs.Laws.{before-trans}
+use Rattle.names.specs.Search.{Rising}
+use Rattle.names.proofs.Search.{rising-all}
 use Rattle.rules.specs.Rules.{accept, first, _orElse_}
 use Rattle.rules.specs.Rules.Test.{_≤?_}
 use Rattle.rules.specs.Rules.Rule.{_⇒_at_}
@@ -56,12 +56,5 @@ named d i a e v =
     let e-is : e ≡ start d + offset d (i + 1) = cc in
     (rw (a-is, e-is) (name-part d i (omega arith) (g .entries i (within .0) .in-range .stays)), name-text d i (both .0) (within .0))
 
-pub rising : (d : List ℕ) → checks d ≡ pass → sorted d ≡ true → (i j : ℕ) → i < j → j < count d → Before (name d i) (name d j)
-rising d e s i zero p q = absurd (omega arith)
-rising d e s i (suc j) p q =
-    let j-is : suc j - 1 ≡ j = omega arith in
-    go (rw j-is at (good d e .entries (suc j) q .above s (omega arith))) (λ r. rising d e s i j r (omega arith)) (decLt i j)
-  where
-    go : Before (name d j) (name d (suc j)) → (i < j → Before (name d i) (name d j)) → Dec (i < j) → Before (name d i) (name d (suc j))
-    go last below (yes r) = before-trans (below r) last
-    go last below (no r) = let i-is : i ≡ j = omega arith in rw i-is last
+pub rising : (d : List ℕ) → checks d ≡ pass → sorted d ≡ true → Rising (name d) (count d)
+rising d e s = rising-all (name d) (count d) λ k p q. good d e .entries k q .above s p

@@ -24,7 +24,7 @@ use Rattle.metadata.specs.Answers.{refusalNumber, refusalPlace, verdictN
 use Rattle.metadata.specs.Steps.{CheckedOf, SpanOf}
 
 -- REFUSALS: number and place, read back; `other` where the number is none of theirs
-pub refusalBy : {A : Type 0} → (Refusal → A) → A → ℕ → ℕ → A
+unfoldable pub refusalBy : {A : Type 0} → (Refusal → A) → A → ℕ → ℕ → A
 refusalBy is other c p =
     cond (eqb c 10) (is TooLong)
     (cond (eqb c 11) (is Empty)
@@ -51,7 +51,7 @@ refusal-injective r q c p =
     sym (refusal-back (λ x. x) TooLong r) ∙ ap₂ (refusalBy (λ x. x) TooLong) c p ∙ refusal-back (λ x. x) TooLong q
 
 -- two values that read back out of the same answer are equal
-by-back : {A B : Type 0} (f : A → B) (back : B → A) → ((a : A) → back (f a) ≡ a) → (a b : A) → f a ≡ f b → a ≡ b
+pub by-back : {A B : Type 0} (f : A → B) (back : B → A) → ((a : A) → back (f a) ≡ a) → (a b : A) → f a ≡ f b → a ≡ b
 by-back f back is a b e = sym (is a) ∙ ap back e ∙ is b
 
 -- ANSWERS

@@ -3,7 +3,7 @@
 use mathlib.Core.Path.{_≡_, _∙_}
 use mathlib.Core.Logic.{_↔_}
 use mathlib.Core.List.{List, [], _∷_}
-use Prim.Native.Nat.{ℕ, _<_}
+use Prim.Native.Nat.{ℕ, _≤_, _<_}
 use native.Mathlib.Omega.{arith}
 use Rattle.utf8.specs.Utf8.{textUpTo}
 use Rattle.utf8.proofs.Laws.{text-le, text-sound, text-longest}
@@ -29,7 +29,7 @@ by-fault d {k} t q before f =
     ∙ each-stop (entryRules d) k (count d) (each-pass (entryRules d) k (λ j r. good-passed d j (before j r))) (fault-stops d k f) q
 
 -- each refusal that is due is given
-is-due : (d : List ℕ) {c p : ℕ} → Refusal d c p → checks d ≡ stop c p
+pub is-due : (d : List ℕ) {c p : ℕ} → Refusal d c p → checks d ≡ stop c p
 is-due d (too-long h) = by-head d (first-at 0 _ h)
 is-due d (empty e) = by-head d (first-at 1 _ (omega arith))
 is-due d (other-version b h) = by-head d (first-at 2 _ (omega arith))
@@ -44,6 +44,21 @@ is-due d (no-text {p = p} b l) =
     by-region d (head-passed d b) (first-at 0 (regionRules (region d)) (omega arith)) ∙ stops _ (rw m)
 is-due d (bad-range t q g n) = by-fault d t q g (out-of-range n)
 is-due d (not-above t q g r s z n) = by-fault d t q g (not-greater r s z n)
+
+-- every refusal's number is 10 or more
+pub from-ten : (d : List ℕ) {c p : ℕ} → Refusal d c p → 10 ≤ c
+from-ten d (too-long h) = omega arith
+from-ten d (empty h) = omega arith
+from-ten d (other-version b h) = omega arith
+from-ten d (count-cut b h) = omega arith
+from-ten d (start-sum b h) = omega arith
+from-ten d (start-short b f h) = omega arith
+from-ten d (first-offset b h) = omega arith
+from-ten d (end-sum b z h) = omega arith
+from-ten d (end-short b z f h) = omega arith
+from-ten d (no-text b l) = omega arith
+from-ten d (bad-range t q g n) = omega arith
+from-ten d (not-above t q g r s z n) = omega arith
 
 -- THE THEOREM
 pub refuses : (d : List ℕ) (c p : ℕ) → (verdict d ≡ refuse c p) ↔ Refusal d c p

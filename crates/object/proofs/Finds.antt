@@ -7,10 +7,10 @@ use lib.ListN.{length}
 use Rattle.names.specs.Search.{Sought, seek}
 use Rattle.names.specs.Search.Sought.{nowhere, here}
 use Rattle.names.proofs.Search.{seek-at}
-use Rattle.rules.specs.Rules.{accept}
-use Rattle.rules.specs.Rules.Found.{pass}
+use Rattle.rules.specs.Rules.{Found, accept, _otherwise_}
+use Rattle.rules.specs.Rules.Found.{pass, stop}
 use Rattle.rules.proofs.Laws.{let-through, passed}
-use Rattle.object.specs.Object.{count, offset, start, end, fieldName, headRules, checks, found, lookup}
+use Rattle.object.specs.Object.{count, offset, start, end, fieldName, headRules, checks, found, lookup, startOf, endOf}
 use Rattle.object.proofs.Laws.{passes, in-region, end-is}
 
 -- a found answer: the checks passed, and the field is the one that was sought
@@ -42,3 +42,14 @@ module _ (d o q : List ℕ) where
       let header = passed (headRules o) (passes d o (f .accepted) .header) in
       let r = in-region d o (f .accepted) k field in
       (omega (arith, end-is o), omega arith)
+
+  -- so where the lookup's child lies, there are bytes; on absence or refusal it is nothing, at the start
+  pub child-inside : (startOf (lookup d o q) ≤ endOf (lookup d o q)) × (endOf (lookup d o q) ≤ length o)
+  unfolding lookup _otherwise_
+  child-inside = go (checks d o) refl (seek (fieldName d o) q (count o)) refl
+    where
+      go : (f : Found) → checks d o ≡ f → (s : Sought) → seek (fieldName d o) q (count o) ≡ s
+          → (startOf (f otherwise found o s) ≤ endOf (f otherwise found o s)) × (endOf (f otherwise found o s) ≤ length o)
+      go pass c nowhere f = (omega arith, omega arith)
+      go pass c (here k) f = found-inside k _ _ (record { accepted = c; sought = f; starts = refl; ends = refl })
+      go (stop c p) e s f = (omega arith, omega arith)

@@ -24,8 +24,8 @@ unfolding rows
 rows-none o w = refl
 
 -- a turn of the loop
-pub turn : (o w₀ w : List ℕ) (k at : ℕ) {x y z : ℕ} → w ≡ rows o k ++ drop (3 * k) w₀ → at ≡ 3 * k → x ≡ id o k → y ≡ start o + offset o k → z ≡ span o k → at + 3 ≤ length w₀
-    → set (set (set w at x) (at + 1) y) (at + 2) z ≡ rows o (k + 1) ++ drop (3 * (k + 1)) w₀
+pub turn : (o w₀ w : List ℕ) (k at : ℕ) {x y z : ℕ} → w ≡ rows o k ++ drop (3 * k) w₀ → at ≡ 3 * k → x ≡ id o k → y ≡ start o + offset o k
+    → z ≡ span o k → at + 3 ≤ length w₀ → set (set (set w at x) (at + 1) y) (at + 2) z ≡ rows o (k + 1) ++ drop (3 * (k + 1)) w₀
 unfolding rows row
 turn o w₀ w k at hw ha hx hy hz h =
     let e1 : at + 1 ≡ suc at = omega arith in

@@ -156,7 +156,7 @@ first-append ((t ⇒ c at p) ∷ rows) b = go (holds t) (first-append rows b)
     go false e = e
 
 -- what holds below n and at n holds below n + 1
-and-last : (P : ℕ → Type 0) (n : ℕ) → ((k : ℕ) → k < n → P k) → P n → (k : ℕ) → k < suc n → P k
+pub and-last : (P : ℕ → Type 0) (n : ℕ) → ((k : ℕ) → k < n → P k) → P n → (k : ℕ) → k < suc n → P k
 and-last P n below last k p = go (decLt k n)
   where
     go : Dec (k < n) → P k
@@ -280,6 +280,11 @@ kept lifted ((t ⇒ c at p) ∷ rows) ((u ⇒ d at q) ∷ rows′) k =
 pub same-stays : (lifted : ℕ → Bool) (f : Found) → Stays lifted f f
 same-stays lifted pass = refl
 same-stays lifted (stop c p) = λ _. refl
+
+-- what fewer numbers lift, more do
+pub stays-more : (few many : ℕ → Bool) (f g : Found) → ((c : ℕ) → many c ≡ false → few c ≡ false) → Stays few f g → Stays many f g
+stays-more few many pass g h k = k
+stays-more few many (stop c p) g h k = λ e. k (h c e)
 
 pub stays-then : (lifted : ℕ → Bool) (f g next next′ : Found) → Stays lifted f g → (f ≡ pass → Stays lifted next next′) → Stays lifted (f orElse next) (g orElse next′)
 unfolding _orElse_

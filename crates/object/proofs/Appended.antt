@@ -1,0 +1,287 @@
+-- Bytes added after the dictionary, after the object or after both, each within the limit, change no answer but empty and short (11, 13, 21
+-- and 23): neither the verdict, nor the lookup, nor the child's bytes and place, nor the listing and its words. With the laws by which each
+-- of the object's numbers stays as it is, for the layers above. Assumes nothing.
+use mathlib.Core.Path.{_≡_, refl}
+use mathlib.Core.Bool.{Bool, true, false, _||_}
+use mathlib.Core.List.{List, [], _∷_, _++_}
+use Prim.Native.Nat.{ℕ, zero, suc, _+_, _-_, _*_, _≤_, _<_}
+use native.Mathlib.Omega.{arith}
+use borrow.Author.Tests.{ne-eqb}
+use lib.Dec.{eqb}
+use lib.ListN.{length, drop, length-append, List·getD-append}
+use Rattle.width.proofs.Laws.{le-append-at}
+use Rattle.part.specs.Part.{part}
+use Rattle.part.proofs.Laws.{part-append}
+use Rattle.names.specs.Search.{Sought, seek}
+use Rattle.names.specs.Search.Sought.{nowhere, here}
+use Rattle.names.proofs.Search.{seek-at}
+use Rattle.rules.specs.Rules.{Found, Answer, Kept, Stays, codeOf, first, each, _orElse_, _otherwise_}
+use Rattle.rules.specs.Rules.Test.{_<?_}
+use Rattle.rules.specs.Rules.Rule.{_⇒_at_}
+use Rattle.rules.specs.Rules.Found.{pass, stop}
+use Rattle.rules.proofs.Laws.{_&_, false-true, passed, both-pass, each-same, each-alike, kept, same-stays, stays-same, stays-more, stays-then, stays-answer}
+use Rattle.metadata.specs.Limits.{limit}
+use Rattle.metadata.specs.Dictionary as dictionary
+use Rattle.metadata.proofs.Means as dictionary-means
+use Rattle.metadata.proofs.Appended as dictionary-appended
+use Rattle.object.specs.Object.{basicType, offsetWidth, idWidth, countWidth, count, idsStart, id, offsetsStart, offset, start, end, fieldName}
+use Rattle.object.specs.Object.{headRules, nameRules, offsetRules, checks, layer, verdict, found, lookup, startOf, endOf}
+use Rattle.object.specs.Object.{leastAbove, span, row, rows, listChecks, listed, unlessRefused, wordsAfter}
+use Rattle.object.proofs.Laws.{ids-before, offsets-before, start-before, id-inside, offset-inside, passes, entry-of}
+use Rattle.object.proofs.Finds.{child-inside}
+use Rattle.object.proofs.Means.{good}
+
+-- the object's refusals that more bytes may lift, empty and short; and the dictionary's with them
+abbrev pub liftedHere : ℕ → Bool
+liftedHere c = eqb c 21 || eqb c 23
+
+abbrev pub lifted : ℕ → Bool
+lifted c = dictionary-appended.lifted c || liftedHere c
+
+-- a number that more bytes do not lift
+pub record Settled (c : ℕ) : Type 0 where
+  pub not-empty-dictionary : c ≡ 11 → ⊥
+  pub not-short-dictionary : c ≡ 13 → ⊥
+  pub not-empty : c ≡ 21 → ⊥
+  pub not-short : c ≡ 23 → ⊥
+
+unlifted : (c : ℕ) → Settled c → lifted c ≡ false
+unlifted c s =
+    rw (ne-eqb c 11 (s .not-empty-dictionary), ne-eqb c 13 (s .not-short-dictionary), ne-eqb c 21 (s .not-empty), ne-eqb c 23 (s .not-short))
+
+neither : (a b : Bool) → (a || b) ≡ false → (a ≡ false) × (b ≡ false)
+neither false b e = (refl, e)
+neither true b e = false-true (cc)
+
+-- the layer's checks after the dictionary's, and after the header's
+abbrev fields : List ℕ → List ℕ → Found
+fields d o = first (each (nameRules d o) (count o)) orElse first (each (offsetRules o) (count o))
+
+abbrev pub own : List ℕ → List ℕ → Found
+own d o = first (headRules o) orElse fields d o
+
+-- the words of a listing that is not refused
+abbrev written : List ℕ → List ℕ → List ℕ
+written o w = rows o (count o) ++ drop (3 * count o) w
+
+-- equal numbers and names up to n: the same least above, and the same found
+least-same : (f g : ℕ → ℕ) (x n : ℕ) → ((k : ℕ) → k < n → f k ≡ g k) → leastAbove f x n ≡ leastAbove g x n
+unfolding leastAbove
+least-same f g x zero h = refl
+least-same f g x (suc n) h = rw (least-same f g x n (λ k p. h k (omega arith)), h n (omega arith))
+
+seek-same : (f g : ℕ → List ℕ) (q : List ℕ) (n : ℕ) → ((k : ℕ) → k < n → f k ≡ g k) → seek f q n ≡ seek g q n
+unfolding seek
+seek-same f g q zero h = refl
+seek-same f g q (suc n) h = rw (seek-same f g q n (λ k p. h k (omega arith)), h n (omega arith))
+
+module _ (o u : List ℕ) where
+  -- EACH NUMBER STAYS where the bytes that hold it are there
+  module _ (h : 1 ≤ length o) where
+    pub type-same : basicType (o ++ u) ≡ basicType o
+    unfolding basicType
+    type-same = rw (List·getD-append o u 0 0 h)
+
+    offset-width-same : offsetWidth (o ++ u) ≡ offsetWidth o
+    unfolding offsetWidth
+    offset-width-same = rw (List·getD-append o u 0 0 h)
+
+    id-width-same : idWidth (o ++ u) ≡ idWidth o
+    unfolding idWidth
+    id-width-same = rw (List·getD-append o u 0 0 h)
+
+    count-width-same : countWidth (o ++ u) ≡ countWidth o
+    unfolding countWidth
+    count-width-same = rw (List·getD-append o u 0 0 h)
+
+    pub ids-same : idsStart (o ++ u) ≡ idsStart o
+    unfolding idsStart
+    ids-same = rw count-width-same
+
+  module _ (h : idsStart o ≤ length o) where
+    some : 1 ≤ length o
+    unfolding idsStart
+    some = omega arith
+
+    pub count-same : count (o ++ u) ≡ count o
+    unfolding count idsStart
+    count-same = rw (count-width-same some, le-append-at (countWidth o) 1 o u h)
+
+    pub offsets-same : offsetsStart (o ++ u) ≡ offsetsStart o
+    unfolding offsetsStart
+    offsets-same = rw (ids-same some, id-width-same some, count-same)
+
+    pub start-same : start (o ++ u) ≡ start o
+    unfolding start
+    start-same = rw (offsets-same, offset-width-same some, count-same)
+
+  module _ (h : start o ≤ length o) where
+    counted : idsStart o ≤ length o
+    counted = omega (arith, ids-before o, offsets-before o)
+
+    pub id-same : (k : ℕ) → k < count o → id (o ++ u) k ≡ id o k
+    unfolding id
+    id-same k p =
+        rw (id-width-same (some counted), ids-same (some counted), le-append-at (idWidth o) (idsStart o + idWidth o * k) o u (omega (arith, offsets-before o, id-inside o (idWidth o) k refl p)))
+
+    pub offset-same : (k : ℕ) → k ≤ count o → offset (o ++ u) k ≡ offset o k
+    unfolding offset
+    offset-same k p =
+        rw (offset-width-same (some counted), offsets-same counted, le-append-at (offsetWidth o) (offsetsStart o + offsetWidth o * k) o u (omega (arith, offset-inside o (offsetWidth o) k refl p)))
+
+    pub end-same : end (o ++ u) ≡ end o
+    unfolding end
+    end-same = rw (count-same counted, start-same counted, offset-same (count o) (omega arith))
+
+    offset-rules-same : (k : ℕ) → k < count o → offsetRules (o ++ u) k ≡ offsetRules o k
+    unfolding offsetRules
+    offset-rules-same k p = rw (count-same counted, offset-same k (omega arith), offset-same (count o) (omega arith))
+
+    layer-same : layer (o ++ u) ≡ layer o
+    layer-same = rw (count-same counted, start-same counted, end-same)
+
+    -- and so do the words
+    span-same : (k : ℕ) → k < count o → span (o ++ u) k ≡ span o k
+    unfolding span
+    span-same k p =
+        rw (count-same counted, offset-same k (omega arith), least-same (offset (o ++ u)) (offset o) (offset o k) (count o + 1) (λ j q. offset-same j (omega arith)))
+
+    rows-same : (n : ℕ) → n ≤ count o → rows (o ++ u) n ≡ rows o n
+    unfolding rows row
+    rows-same zero p = refl
+    rows-same (suc n) p =
+        rw (rows-same n (omega arith), id-same n (omega arith), start-same counted, offset-same n (omega arith), span-same n (omega arith))
+
+  -- THE HEADER'S CHECKS, one by one
+  head-kept : length (o ++ u) ≤ limit → Kept liftedHere (headRules o) (headRules (o ++ u))
+  head-kept l =
+      let more = length-append o u in
+      omega arith & λ f20.
+      omega arith & λ f21.
+      let t = type-same f21 in
+      let i = ids-same f21 in
+      omega arith & λ f22.
+      omega arith & λ f23.
+      let a = offsets-same f23 in
+      let s = start-same f23 in
+      omega arith & λ f24.
+      omega arith & λ f24′.
+      omega arith & λ f23′.
+      let e = end-same f23′ in omega arith & λ f24″. omega arith & λ f23″. tt
+
+module _ (d t o u : List ℕ) where
+  -- OVER AN ACCEPTED DICTIONARY
+  module _ (over : dictionary.checks d ≡ pass) where
+    module _ (placed : start o ≤ length o) where
+      field-same : (k : ℕ) → k < count o → id o k < dictionary.count d → fieldName (d ++ t) (o ++ u) k ≡ fieldName d o k
+      unfolding fieldName
+      field-same k p i =
+          let g = dictionary-means.good d over in
+          rw (id-same o u placed k p, dictionary-appended.name-same d t (omega arith) (id o k) i)
+
+      -- a field's row is the same where the id before is an entry
+      name-kept : (k : ℕ) → k < count o → (0 < k → id o (k - 1) < dictionary.count d) → Kept (λ _. false) (nameRules d o k) (nameRules (d ++ t) (o ++ u) k)
+      unfolding nameRules
+      name-kept k p before =
+          let g = dictionary-means.good d over in
+          let last : 0 < k → fieldName (d ++ t) (o ++ u) (k - 1) ≡ fieldName d o (k - 1) = λ z. field-same (k - 1) (omega arith) (before z) in
+          rw (dictionary-appended.count-same d t (omega arith), id-same o u placed k p)
+          ((refl, refl, (λ f. f), (λ h. h))
+          & λ entry.
+          let this = field-same k p entry in
+          (refl, refl, (λ f z. rw (last z, this) (f z)), λ h. (h .0, rw (last (h .0), this) (h .1)))
+          & λ _. tt)
+
+      names-same : first (each (nameRules d o) (count o)) ≡ first (each (nameRules (d ++ t) (o ++ u)) (count o))
+      unfolding nameRules
+      names-same =
+          each-alike (nameRules d o) (nameRules (d ++ t) (o ++ u)) (count o) λ k p all.
+          stays-same _ _ (kept (λ _. false) _ _ (name-kept k p (λ z. all (k - 1) (omega arith) .0)))
+
+      fields-same : fields (d ++ t) (o ++ u) ≡ fields d o
+      fields-same =
+          rw (count-same o u (counted o u placed), ← names-same, each-same (offsetRules (o ++ u)) (offsetRules o) (count o) (offset-rules-same o u placed))
+
+    pub own-kept : length (o ++ u) ≤ limit → Stays liftedHere (own d o) (own (d ++ t) (o ++ u))
+    own-kept l =
+        stays-then liftedHere (first (headRules o)) (first (headRules (o ++ u))) (fields d o) (fields (d ++ t) (o ++ u))
+        (kept liftedHere (headRules o) (headRules (o ++ u)) (head-kept o u l)) λ e.
+        let head = passed (headRules o) e in
+        rw (fields-same (omega arith)) (same-stays liftedHere (fields d o))
+
+  -- ALL CHECKS
+  module _ (dictionary-limit : length (d ++ t) ≤ limit) (object-limit : length (o ++ u) ≤ limit) where
+    pub checks-kept : Stays lifted (checks d o) (checks (d ++ t) (o ++ u))
+    unfolding checks
+    checks-kept =
+        stays-then lifted (dictionary.checks d) (dictionary.checks (d ++ t)) (own d o) (own (d ++ t) (o ++ u))
+        (stays-more dictionary-appended.lifted lifted (dictionary.checks d) _ (λ c e. neither _ (liftedHere c) e .0) (dictionary-appended.checks-kept d t dictionary-limit)) λ over.
+        stays-more liftedHere lifted (own d o) _ (λ c e. neither (dictionary-appended.lifted c) _ e .1) (own-kept over object-limit)
+
+    -- THE VERDICT
+    pub verdict-appended : Settled (codeOf (verdict d o)) → verdict (d ++ t) (o ++ u) ≡ verdict d o
+    unfolding verdict
+    verdict-appended s =
+        stays-answer lifted (checks d o) (checks (d ++ t) (o ++ u)) _ _ checks-kept (λ e. let g = good d o e in layer-same o u (omega arith)) (unlifted _ s)
+
+    -- THE LOOKUP
+    module _ (q : List ℕ) where
+      found-same : checks d o ≡ pass → found (o ++ u) (seek (fieldName (d ++ t) (o ++ u)) q (count (o ++ u))) ≡ found o (seek (fieldName d o) q (count o))
+      found-same e =
+          let g = good d o e in
+          let placed : start o ≤ length o = omega arith in
+          let over = passes d o e .over in
+          rw (count-same o u (counted o u placed), seek-same (fieldName (d ++ t) (o ++ u)) (fieldName d o) q (count o) (λ k p. field-same over placed k p (entry-of d o e k p)))
+          (go placed (seek (fieldName d o) q (count o)) (seek-at (fieldName d o) q (count o)))
+        where
+          go : start o ≤ length o → (s : Sought) → ((k : ℕ) → s ≡ here k → (k < count o) × (fieldName d o k ≡ q)) → found (o ++ u) s ≡ found o s
+          go placed nowhere is = refl
+          go placed (here k) is = let p = is k refl in rw (start-same o u (counted o u placed), offset-same o u placed k (omega arith), end-same o u placed)
+
+      pub lookup-appended : Settled (codeOf (lookup d o q)) → lookup (d ++ t) (o ++ u) q ≡ lookup d o q
+      unfolding lookup
+      lookup-appended s = stays-answer lifted (checks d o) (checks (d ++ t) (o ++ u)) _ _ checks-kept found-same (unlifted _ s)
+
+      -- THE CHILD: where it starts and ends, counted from the object's first byte, and its bytes
+      pub child-appended : Settled (codeOf (lookup d o q))
+          → (startOf (lookup (d ++ t) (o ++ u) q) ≡ startOf (lookup d o q))
+          × (endOf (lookup (d ++ t) (o ++ u) q) ≡ endOf (lookup d o q))
+          × (part (o ++ u) (startOf (lookup (d ++ t) (o ++ u) q)) (endOf (lookup (d ++ t) (o ++ u) q)) ≡ part o (startOf (lookup d o q)) (endOf (lookup d o q)))
+      child-appended s =
+          let i = child-inside d o q in
+          rw (lookup-appended s) (refl, refl, part-append o u _ _ (i .0) (i .1))
+
+    -- THE LISTING, and its words
+    module _ (w : List ℕ) where
+      abbrev room : List ℕ → Found
+      room x = first ((length w <? 3 * count x ⇒ 41 at 0) ∷ [])
+
+      list-kept : Stays lifted (listChecks d o w) (listChecks (d ++ t) (o ++ u) w)
+      unfolding listChecks
+      list-kept =
+          stays-then lifted (checks d o) (checks (d ++ t) (o ++ u)) (room o) (room (o ++ u)) checks-kept λ e.
+          let g = good d o e in rw (count-same o u (omega arith)) (same-stays lifted (room o))
+
+      accepted : listChecks d o w ≡ pass → checks d o ≡ pass
+      unfolding listChecks
+      accepted e = both-pass (checks d o) _ e .0
+
+      pub listed-appended : Settled (codeOf (listed d o w)) → listed (d ++ t) (o ++ u) w ≡ listed d o w
+      unfolding listed
+      listed-appended s =
+          stays-answer lifted (listChecks d o w) (listChecks (d ++ t) (o ++ u) w) _ _ list-kept (λ e. let g = good d o (accepted e) in layer-same o u (omega arith)) (unlifted _ s)
+
+      pub words-appended : Settled (codeOf (listed d o w)) → wordsAfter (d ++ t) (o ++ u) w ≡ wordsAfter d o w
+      unfolding listed wordsAfter _otherwise_
+      words-appended s = go (listChecks d o w) list-kept same (unlifted _ s)
+        where
+          same : listChecks d o w ≡ pass → written (o ++ u) w ≡ written o w
+          same e =
+              let g = good d o (accepted e) in
+              rw (count-same o u (omega arith), rows-same o u (omega arith) (count o) (omega arith))
+
+          go : (f : Found) → Stays lifted f (listChecks (d ++ t) (o ++ u) w) → (f ≡ pass → written (o ++ u) w ≡ written o w)
+              → lifted (codeOf (f otherwise layer o)) ≡ false
+              → unlessRefused (listChecks (d ++ t) (o ++ u) w) (written (o ++ u) w) w ≡ unlessRefused f (written o w) w
+          go pass k h e = rw k (h refl)
+          go (stop c p) k h e = rw (k e)
