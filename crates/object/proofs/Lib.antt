@@ -10,3 +10,4 @@ pub mod Appended
 pub mod Cut
 pub mod Listed
 pub mod Pinned
+pub mod Fits
