@@ -1,0 +1,247 @@
+/*
+ * Lichenhusk: a proved reader of the Variant binary encoding of Apache Parquet.
+ *
+ * A Variant comes as two buffers: a dictionary of field names (the encoding's
+ * "metadata") and a value. These functions read the dictionary and one layer
+ * of an object; they do not look into the object's children.
+ *
+ * Every function takes any bytes at all, keeps nothing, allocates nothing and
+ * ends. It reads only the buffers that it is handed, and writes only what is
+ * said here. That much, and each answer below, is proved of the code.
+ *
+ * What a caller must see to:
+ *
+ *   - A buffer is a pointer and a length. The pointer must not be null, not
+ *     even for a length of 0: any other pointer will do there, say the address
+ *     of some variable.
+ *   - A buffer that is written (strip, words, room) shares no memory with
+ *     another buffer of the same call.
+ *   - words is aligned as a uint32_t is.
+ *
+ * THE STRIP. The answer goes to the first 20 bytes of a buffer of yours: five
+ * numbers of 32 bits, each with its lowest byte first, whatever the machine.
+ *
+ *   bytes  0 to 3    the code: one of the numbers of the enum below
+ *   bytes  4 to 7    a number: which one, each function says
+ *   bytes  8 to 11   start
+ *   bytes 12 to 15   end (the first byte that no longer belongs)
+ *   bytes 16 to 19   the place of a refusal
+ *
+ * A word that has no use in an answer is 0; on a refusal, all but the code and
+ * the place. Bytes after the first 20 stay as they are. The code is also what
+ * the function returns. If the strip is shorter than 20 bytes, the function
+ * returns 40 before anything else is looked at, and writes nothing.
+ *
+ * The TRIMMED END of a dictionary or an object is where its own bytes end, by
+ * its own offsets. Bytes after it are ignored.
+ *
+ * AN EXAMPLE, whole:
+ *
+ *   #include <stdio.h>
+ *   #include "lichenhusk.h"
+ *
+ *   int main(void)
+ *   {
+ *       const uint8_t dict[] = {0x11, 2, 0, 4, 8, 'f', 'l', 'o', 'w', 'r', 'o', 'l', 'l'};
+ *       const uint8_t object[] = {0x02, 2, 0, 1, 1, 0, 3, 4, 0x0C, 0xFB};
+ *       const uint8_t name[] = {'f', 'l', 'o', 'w'};
+ *       uint8_t strip[LICHENHUSK_STRIP_BYTES];
+ *
+ *       switch (lichenhusk_lookup(dict, sizeof dict, object, sizeof object,
+ *                                 name, sizeof name, strip, sizeof strip)) {
+ *       case LICHENHUSK_OK:
+ *           printf("field %u, bytes %u to %u\n",
+ *                  (unsigned) lichenhusk_word(strip, LICHENHUSK_NUMBER),
+ *                  (unsigned) lichenhusk_word(strip, LICHENHUSK_START),
+ *                  (unsigned) lichenhusk_word(strip, LICHENHUSK_END));
+ *           return 0;
+ *       case LICHENHUSK_ABSENT:
+ *           printf("no such field\n");
+ *           return 1;
+ *       default:
+ *           printf("refused: %u at %u\n",
+ *                  (unsigned) lichenhusk_word(strip, LICHENHUSK_CODE),
+ *                  (unsigned) lichenhusk_word(strip, LICHENHUSK_PLACE));
+ *           return 2;
+ *       }
+ *   }
+ *
+ * It prints "field 0, bytes 8 to 10". The functions are in the archive
+ * target/staticlib/libstrip.a, which `rt staticlib strip` makes for x86-64:
+ *
+ *   cc -Iinclude example.c target/staticlib/libstrip.a -o example
+ */
+#ifndef LICHENHUSK_H
+#define LICHENHUSK_H
+
+#include <stddef.h>
+#include <stdint.h>
+
+#ifdef __cplusplus
+extern "C" {
+#endif
+
+enum {
+    /* The most bytes that a dictionary, or an object, may have. */
+    LICHENHUSK_LIMIT = 65536,
+    /* The bytes of a strip that are written. */
+    LICHENHUSK_STRIP_BYTES = 20,
+    /* The words of a listing for each field: id, start, span. */
+    LICHENHUSK_WORDS_PER_FIELD = 3,
+    /* The bytes of the empty dictionary. */
+    LICHENHUSK_EMPTY_BYTES = 3
+};
+
+/* Which word of the strip. */
+enum lichenhusk_word_index {
+    LICHENHUSK_CODE = 0,
+    LICHENHUSK_NUMBER = 1,
+    LICHENHUSK_START = 2,
+    LICHENHUSK_END = 3,
+    LICHENHUSK_PLACE = 4
+};
+
+/*
+ * Every number that is answered. "The place" is the strip's last word; where
+ * nothing is said of it, it is 0. Of several reasons to refuse, the answer is
+ * the first in the order in which the bytes are checked: the dictionary before
+ * the object, a header before what it describes, and then entry by entry and
+ * field by field.
+ */
+enum lichenhusk_code {
+    /* Accepted, found, or written. */
+    LICHENHUSK_OK = 0,
+    /* All is well, and the object has no field of that name. */
+    LICHENHUSK_ABSENT = 1,
+
+    /* The dictionary is longer than 65,536 bytes. */
+    LICHENHUSK_DICTIONARY_TOO_LONG = 10,
+    /* The dictionary has no bytes. */
+    LICHENHUSK_DICTIONARY_EMPTY = 11,
+    /* The dictionary's version is not 1. */
+    LICHENHUSK_DICTIONARY_VERSION = 12,
+    /* The dictionary ends before its count, its offsets or its names do. */
+    LICHENHUSK_DICTIONARY_SHORT = 13,
+    /* The dictionary's count or last offset asks for a place above 4,294,967,295. */
+    LICHENHUSK_DICTIONARY_OVERFLOW = 14,
+    /* The dictionary's first offset is not 0. */
+    LICHENHUSK_DICTIONARY_FIRST_OFFSET = 15,
+    /* The names are not UTF-8. The place: how many bytes of them, from the
+     * first name's first byte, are well formed. */
+    LICHENHUSK_DICTIONARY_NOT_UTF8 = 16,
+    /* An entry's offsets fall, pass the names' end or cut a character. The
+     * place: the entry. */
+    LICHENHUSK_DICTIONARY_ENTRY = 17,
+    /* The dictionary says that it is sorted, and an entry's name is not above
+     * the one before. The place: the entry. */
+    LICHENHUSK_DICTIONARY_ORDER = 18,
+
+    /* The object is longer than 65,536 bytes. */
+    LICHENHUSK_OBJECT_TOO_LONG = 20,
+    /* The object has no bytes. */
+    LICHENHUSK_OBJECT_EMPTY = 21,
+    /* The value is not an object: its basic type is not 2. */
+    LICHENHUSK_OBJECT_TYPE = 22,
+    /* The object ends before its count, its ids, its offsets or its children do. */
+    LICHENHUSK_OBJECT_SHORT = 23,
+    /* The object's count or last offset asks for a place above 4,294,967,295. */
+    LICHENHUSK_OBJECT_OVERFLOW = 24,
+    /* A field's id names no entry of the dictionary. The place: the field. */
+    LICHENHUSK_OBJECT_ID = 25,
+    /* A field's name is not above the name of the field before. The place: the
+     * field. */
+    LICHENHUSK_OBJECT_ORDER = 26,
+    /* A field's offset is above the length of the children's bytes. The place:
+     * the field. */
+    LICHENHUSK_OBJECT_OFFSET = 27,
+
+    /* The dictionary has no entry of that number. */
+    LICHENHUSK_NO_SUCH_ENTRY = 31,
+
+    /* The strip is shorter than 20 bytes. Nothing is written. */
+    LICHENHUSK_STRIP_TOO_SHORT = 40,
+    /* Fewer than three words of room for each field. No word is written. */
+    LICHENHUSK_WORDS_TOO_FEW = 41,
+    /* Fewer than 3 bytes of room for the empty dictionary. Nothing is written. */
+    LICHENHUSK_ROOM_TOO_SMALL = 42
+};
+
+/* A word of a strip that an answer was written to. */
+static inline uint32_t lichenhusk_word(const uint8_t *strip, enum lichenhusk_word_index word)
+{
+    const uint8_t *at = strip + 4 * (size_t) word;
+    return (uint32_t) at[0] | (uint32_t) at[1] << 8 | (uint32_t) at[2] << 16
+           | (uint32_t) at[3] << 24;
+}
+
+/*
+ * Checks the dictionary and one layer of the object, and looks for the field of
+ * a name. The name is any bytes; bytes that are not UTF-8 are simply absent.
+ *
+ * 0: number is the field (counted from 0 in the object's order), and its child
+ *    is the object's bytes from start to end. The end is the object's trimmed
+ *    end, so other children may follow within; the child may have no bytes.
+ * 1: there is no such field.
+ * Otherwise a refusal: 10 to 18, 20 to 27, or 40.
+ */
+uint32_t lichenhusk_lookup(const uint8_t *dict, size_t dict_len,
+                           const uint8_t *object, size_t object_len,
+                           const uint8_t *name, size_t name_len,
+                           uint8_t *strip, size_t strip_len);
+
+/*
+ * Checks the dictionary.
+ *
+ * 0: number is its entry count, start is 0, end is its trimmed end.
+ * Otherwise a refusal: 10 to 18, or 40.
+ */
+uint32_t lichenhusk_dictionary(const uint8_t *dict, size_t dict_len,
+                               uint8_t *strip, size_t strip_len);
+
+/*
+ * Checks the dictionary and finds the name of an entry, counted from 0.
+ *
+ * 0: number is 0, and the name is the dictionary's bytes from start to end.
+ * Otherwise a refusal: 10 to 18, then 31, or 40.
+ */
+uint32_t lichenhusk_name(const uint8_t *dict, size_t dict_len, size_t entry,
+                         uint8_t *strip, size_t strip_len);
+
+/*
+ * Checks the dictionary and one layer of the object.
+ *
+ * 0: number is the field count, start is where the children's bytes begin, end
+ *    is the object's trimmed end.
+ * Otherwise a refusal: 10 to 18, 20 to 27, or 40.
+ */
+uint32_t lichenhusk_layer(const uint8_t *dict, size_t dict_len,
+                          const uint8_t *object, size_t object_len,
+                          uint8_t *strip, size_t strip_len);
+
+/*
+ * As lichenhusk_layer, and lists the fields: three words each, in the object's
+ * order: the field's id (its entry in the dictionary); where its child starts
+ * in the object; the span, the bytes from there to the next larger offset, or
+ * 0 where there is none. words_len counts words. Words after these stay as they
+ * are, and a refusal leaves them all.
+ *
+ * 41 comes after every other refusal.
+ */
+uint32_t lichenhusk_list(const uint8_t *dict, size_t dict_len,
+                         const uint8_t *object, size_t object_len,
+                         uint32_t *words, size_t words_len,
+                         uint8_t *strip, size_t strip_len);
+
+/*
+ * Writes the empty dictionary, the bytes 01 00 00, to the first three bytes of
+ * room; bytes after them stay as they are.
+ *
+ * 0, or 42 with nothing written. There is no strip.
+ */
+uint32_t lichenhusk_empty(uint8_t *room, size_t room_len);
+
+#ifdef __cplusplus
+}
+#endif
+
+#endif

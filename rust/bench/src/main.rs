@@ -1,0 +1,84 @@
+//! The clock: check and lookup together, ours and the Rust's, in one process.
+//!
+//! `cargo run --profile measured -p bench`
+
+mod clock;
+mod rows;
+mod sides;
+
+use clock::{SAMPLES, medians};
+use sides::prepared;
+use std::fs;
+use std::process::Command;
+
+/// What the columns are, to be printed above them.
+const LEGEND: &str = "\
+Nanoseconds of a call, the median of its samples; the sides take turns within a row.
+  ours      lichenhusk::lookup: dictionary check, layer check and lookup, in one call
+  Rust      VariantMetadata::try_new, VariantObject::try_new and get
+  children  Variant::try_new_with_metadata of each child, which VariantObject::try_new does too
+  R-c       the column Rust less the column children: a difference, not a run of its own
+  shallow   VariantMetadata::try_new, VariantObject::new and get: no check of ids, of the order of
+            names, of offsets or of children, all but the last of which ours does
+The ratios are ours to the column before them. Each child is an eight-bit integer.";
+
+fn main() {
+    println!("{}", machine());
+    println!("recipe: cargo run --profile measured -p bench; {SAMPLES} samples of each side");
+    println!("{LEGEND}\n");
+    println!(
+        "{:<50}{:>7}{:>7}{:>11}{:>11}{:>7}{:>11}{:>11}{:>7}{:>11}{:>7}",
+        "row",
+        "dict",
+        "object",
+        "ours",
+        "Rust",
+        "ratio",
+        "children",
+        "R-c",
+        "ratio",
+        "shallow",
+        "ratio"
+    );
+    for row in rows::rows() {
+        let [ours, whole, shallow, children] = medians(&prepared(&row));
+        let less = whole - children;
+        println!(
+            "{:<50}{:>7}{:>7}{ours:>11.1}{whole:>11.1}{:>7.2}{children:>11.1}{less:>11.1}{:>7.2}{shallow:>11.1}{:>7.2}",
+            row.label,
+            row.dict.len(),
+            row.object.len(),
+            ours / whole,
+            ours / less,
+            ours / shallow,
+        );
+    }
+    println!("\nload after: {}", load());
+}
+
+/// The processor, the compiler and what else the machine is doing.
+fn machine() -> String {
+    let cpus = fs::read_to_string("/proc/cpuinfo").unwrap_or_default();
+    let model = cpus
+        .lines()
+        .find_map(|line| line.strip_prefix("model name")?.split_once(": "))
+        .map_or("unknown processor", |(_, model)| model);
+    let count = cpus
+        .lines()
+        .filter(|line| line.starts_with("processor"))
+        .count();
+    let compiler = Command::new("rustc").arg("--version").output();
+    let compiler = compiler.map_or("unknown rustc".into(), |output| {
+        String::from_utf8_lossy(&output.stdout).trim().to_string()
+    });
+    format!(
+        "machine: {model}, {count} processors, {compiler}; load before: {}",
+        load()
+    )
+}
+
+/// The load averages of one, five and fifteen minutes.
+fn load() -> String {
+    let text = fs::read_to_string("/proc/loadavg").unwrap_or_default();
+    text.split(' ').take(3).collect::<Vec<_>>().join(" ")
+}

@@ -1,0 +1,155 @@
+//! What is measured: dictionaries, objects and the names that are looked for.
+
+use differential::encode::{DictionaryShape, dictionary, least_width, plain_object};
+use differential::random::Random;
+use std::collections::BTreeSet;
+
+/// One line of the table.
+pub struct Row {
+    /// What it is.
+    pub label: String,
+    /// The dictionary.
+    pub dict: Vec<u8>,
+    /// The object.
+    pub object: Vec<u8>,
+    /// The names, in the order in which they are asked for, again and again.
+    pub names: Vec<String>,
+}
+
+/// How names are made.
+#[derive(Clone, Copy, Debug)]
+enum Names {
+    /// Twelve letters at random.
+    Letters,
+    /// Forty bytes in common, then a number.
+    Prefixed,
+    /// Six characters of two bytes at random.
+    TwoByte,
+}
+
+/// Which entries the object has as fields.
+#[derive(Clone, Copy, Debug, PartialEq)]
+enum Fields {
+    All,
+    Middle,
+}
+
+/// Whether the names asked for are there.
+#[derive(Clone, Copy, Debug, PartialEq)]
+enum Asked {
+    Present,
+    Absent,
+}
+
+/// Every line of the table.
+pub fn rows() -> Vec<Row> {
+    use Asked::*;
+    use Fields::*;
+    use Names::*;
+    let kinds = [
+        ("1 field", 1, Letters, All, Present),
+        ("16 fields", 16, Letters, All, Present),
+        ("255 fields", 255, Letters, All, Present),
+        ("255 fields, absent names", 255, Letters, All, Absent),
+        ("255 fields, 40-byte prefix", 255, Prefixed, All, Present),
+        ("255 fields, 2-byte characters", 255, TwoByte, All, Present),
+        ("4,000 names, 1 field", 4000, Letters, Middle, Present),
+        (
+            "4,000 names, 1 field, 2-byte characters",
+            4000,
+            TwoByte,
+            Middle,
+            Present,
+        ),
+        (
+            "1,200 names, 1 field, 40-byte prefix",
+            1200,
+            Prefixed,
+            Middle,
+            Present,
+        ),
+    ];
+    let mut all = Vec::new();
+    for (label, count, names, fields, asked) in kinds {
+        for sorted in [true, false] {
+            let label = format!("{label}, {}", if sorted { "sorted" } else { "unsorted" });
+            all.push(row(label, count, names, sorted, fields, asked));
+        }
+    }
+    all
+}
+
+fn row(
+    label: String,
+    count: usize,
+    names: Names,
+    sorted: bool,
+    fields: Fields,
+    asked: Asked,
+) -> Row {
+    let mut random = Random::seeded(count as u64);
+    let names = increasing(&mut random, count, names);
+    let mut entries: Vec<usize> = (0..count).collect(); // the entry's name, by its rank
+    if !sorted {
+        random.shuffle(&mut entries);
+    }
+    let chosen = match fields {
+        Fields::All => 0..count,
+        Fields::Middle => count / 2..count / 2 + 1,
+    };
+    let id_of = |rank: usize| entries.iter().position(|&entry| entry == rank);
+    let ids: Vec<usize> = chosen.clone().filter_map(id_of).collect();
+    let children: Vec<Vec<u8>> = chosen.clone().map(|rank| vec![0x0C, rank as u8]).collect();
+    Row {
+        label,
+        dict: dictionary_of(&names, &entries, sorted),
+        object: plain_object(&ids, &children),
+        names: asked_for(&mut random, &names[chosen], asked),
+    }
+}
+
+fn increasing(random: &mut Random, count: usize, names: Names) -> Vec<String> {
+    let mut all = BTreeSet::new();
+    while all.len() < count {
+        all.insert(match names {
+            Names::Letters => (0..12)
+                .map(|_| (b'a' + random.below(26) as u8) as char)
+                .collect(),
+            Names::Prefixed => format!("{:_<40}{:04}", "station_meter_reading", all.len()),
+            Names::TwoByte => (0..6).map(|_| two_byte(random)).collect(),
+        });
+    }
+    all.into_iter().collect()
+}
+
+/// A letter of the Greek or Cyrillic alphabets.
+fn two_byte(random: &mut Random) -> char {
+    char::from_u32(0x391 + random.below(0xC0) as u32).unwrap_or('Ω')
+}
+
+fn dictionary_of(names: &[String], entries: &[usize], sorted: bool) -> Vec<u8> {
+    let names: Vec<Vec<u8>> = entries
+        .iter()
+        .map(|&rank| names[rank].clone().into_bytes())
+        .collect();
+    let total: usize = names.iter().map(Vec::len).sum();
+    let shape = DictionaryShape {
+        width: least_width(total.max(names.len())),
+        sorted,
+        spare: false,
+    };
+    dictionary(&names, shape)
+}
+
+/// So many names are asked for in turn, so that no branch predictor learns them by heart.
+const TURNS: usize = 4096;
+
+fn asked_for(random: &mut Random, names: &[String], asked: Asked) -> Vec<String> {
+    let pick = |name: &String| match asked {
+        Asked::Present => name.clone(),
+        Asked::Absent => format!("{}~", &name[..name.len() - 1]),
+    };
+    (0..TURNS)
+        .map(|_| pick(&names[random.below(names.len())]))
+        .collect()
+}

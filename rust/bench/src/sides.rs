@@ -1,0 +1,76 @@
+//! What is called, on each side.
+
+use crate::rows::Row;
+use parquet_variant::{Variant, VariantMetadata, VariantObject};
+use std::hint::black_box;
+
+/// A row, and what the checks of its children need.
+pub struct Prepared<'r> {
+    row: &'r Row,
+    metadata: VariantMetadata<'r>,
+    starts: Vec<usize>,
+}
+
+/// Something whose time is taken, for a turn of a row.
+pub type Side = fn(&Prepared, usize);
+
+/// The sides, in the order of the table's columns.
+pub const SIDES: [Side; 4] = [ours, whole, shallow, children];
+
+/// Prepares a row, after a look that both sides answer alike: each name that is asked for is
+/// found by both, and in the same bytes, or by none.
+pub fn prepared(row: &Row) -> Prepared<'_> {
+    let metadata = VariantMetadata::try_new(&row.dict).expect("a good dictionary");
+    let object = VariantObject::try_new(metadata.clone(), &row.object).expect("a good object");
+    for name in &row.names {
+        let child = lichenhusk::child(&row.dict, &row.object, name.as_bytes());
+        let ours = child.expect("good on our side too").map(|child| {
+            Variant::try_new_with_metadata(metadata.clone(), child).expect("a good child")
+        });
+        assert_eq!(ours, object.get(name), "{}: {name}", row.label);
+    }
+    let fields = lichenhusk::list(&row.dict, &row.object).expect("good on our side too");
+    Prepared {
+        row,
+        metadata,
+        starts: fields.iter().map(|field| field.start).collect(),
+    }
+}
+
+fn name(row: &Row, turn: usize) -> &str {
+    black_box(&row.names[turn % row.names.len()])
+}
+
+/// Check and lookup together: one call.
+fn ours(prepared: &Prepared, turn: usize) {
+    let row = prepared.row;
+    let (dict, object) = (black_box(&row.dict), black_box(&row.object));
+    let found = lichenhusk::lookup(dict, object, name(row, turn).as_bytes());
+    let _ = black_box(found);
+}
+
+/// The Rust's check of the dictionary, its check of the object with its children, and `get`.
+fn whole(prepared: &Prepared, turn: usize) {
+    let row = prepared.row;
+    let metadata = VariantMetadata::try_new(black_box(&row.dict)).expect("a good row");
+    let object = VariantObject::try_new(metadata, black_box(&row.object)).expect("a good row");
+    black_box(object.get(name(row, turn)));
+}
+
+/// The same with `VariantObject::new` in place of `try_new`.
+fn shallow(prepared: &Prepared, turn: usize) {
+    let row = prepared.row;
+    let metadata = VariantMetadata::try_new(black_box(&row.dict)).expect("a good row");
+    let object = VariantObject::new(metadata, black_box(&row.object));
+    black_box(object.get(name(row, turn)));
+}
+
+/// The Rust's checks of the children alone.
+fn children(prepared: &Prepared, _: usize) {
+    let object = black_box(&prepared.row.object);
+    for &start in &prepared.starts {
+        let metadata = prepared.metadata.clone();
+        let child = Variant::try_new_with_metadata(metadata, &object[start..]);
+        let _ = black_box(child);
+    }
+}

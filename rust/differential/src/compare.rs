@@ -1,0 +1,453 @@
+//! What must agree, on document 01's differential domain.
+//!
+//! Of a dictionary: it is accepted by both or by none; the counts and the trimmed ends are equal;
+//! the name of an entry number is the same bytes of the dictionary; and the reason for which the
+//! Rust refuses is our number.
+//!
+//! Of an object over an accepted dictionary: the Rust accepts it exactly when our layer does and
+//! the Rust accepts each child that our listing gives; then counts, trimmed ends and names in
+//! field order are equal, each field is the value read from our child bytes, and a lookup finds
+//! exactly what `get` yields. The same is asked of a copy with children that the Rust accepts
+//! (see [`traced`]), which gives a verdict on the layer alone, and places.
+//!
+//! Of our own answers besides: each function gives the same refusal; a listing's spans are those
+//! of its starts; words after a listing, and all words under a refusal, stay.
+
+use crate::original::{
+    DICTIONARY_REASONS, may_be_object_number, place_in, same_value, told, traced, traced_start,
+    words,
+};
+use crate::ours::{Reader, absent, accepted, refused};
+use crate::reading::DictionaryParts;
+use crate::tally::Tally;
+use crate::{Input, hex};
+use lichenhusk::{Field, LIMIT, OK, Strip, WORDS_PER_FIELD};
+use parquet_variant::{Variant, VariantMetadata, VariantObject};
+use std::fmt::{self, Debug};
+
+/// How many entries, or fields, of one input are asked for by name or number; of more, some.
+const ASKED: usize = 24;
+
+/// What a lent word holds before a call.
+const UNWRITTEN: u32 = 0xEEEE_EEEE;
+
+/// Two answers that should agree and do not.
+#[derive(Clone, Debug, PartialEq, Eq)]
+pub struct Disagreement {
+    /// What was asked.
+    pub asked: String,
+    /// What we answer.
+    pub ours: String,
+    /// What the Rust answers, or what follows from it.
+    pub theirs: String,
+}
+
+impl fmt::Display for Disagreement {
+    fn fmt(&self, to: &mut fmt::Formatter<'_>) -> fmt::Result {
+        writeln!(to, "asked:    {}", self.asked)?;
+        writeln!(to, "ours:     {}", self.ours)?;
+        writeln!(to, "the Rust: {}", self.theirs)
+    }
+}
+
+/// Nothing, or where two answers differ.
+pub type Compared<T = ()> = Result<T, Disagreement>;
+
+fn differ<T>(asked: &str, ours: impl Debug, theirs: impl Debug) -> Compared<T> {
+    Err(Disagreement {
+        asked: asked.to_string(),
+        ours: format!("{ours:?}"),
+        theirs: format!("{theirs:?}"),
+    })
+}
+
+fn agree<T: PartialEq + Debug>(asked: &str, ours: T, theirs: T) -> Compared {
+    if ours == theirs {
+        Ok(())
+    } else {
+        differ(asked, ours, theirs)
+    }
+}
+
+/// A dictionary that was compared, for objects over it.
+pub struct Known<'d> {
+    dict: &'d [u8],
+    ours: Strip,
+    theirs: Option<VariantMetadata<'d>>,
+}
+
+/// Compares all that can be asked of an input.
+pub fn input(reader: &impl Reader, input: &Input, tally: &mut Tally) -> Compared {
+    let known = dictionary(reader, &input.dict, tally)?;
+    match &input.object {
+        Some(bytes) => object(reader, &known, bytes, input.query.as_deref(), tally),
+        None => Ok(()),
+    }
+}
+
+/// Compares what can be asked of a dictionary.
+pub fn dictionary<'d>(
+    reader: &impl Reader,
+    dict: &'d [u8],
+    tally: &mut Tally,
+) -> Compared<Known<'d>> {
+    let ours = reader.dictionary(dict);
+    let theirs = dictionary_verdict(reader, dict, ours, tally)?;
+    Ok(Known { dict, ours, theirs })
+}
+
+fn dictionary_verdict<'d>(
+    reader: &impl Reader,
+    dict: &'d [u8],
+    ours: Strip,
+    tally: &mut Tally,
+) -> Compared<Option<VariantMetadata<'d>>> {
+    if dict.len() > LIMIT {
+        agree("a dictionary over the limit", ours, refused(10, 0))?;
+        tally.over_limit += 1;
+        return Ok(None);
+    }
+    match VariantMetadata::try_new(dict) {
+        Ok(theirs) => {
+            let numbers = accepted(theirs.len(), 0, theirs.size());
+            agree("an accepted dictionary's numbers", ours, numbers)?;
+            names(reader, dict, &theirs, tally)?;
+            tally.dictionaries += 1;
+            Ok(Some(theirs))
+        }
+        Err(error) => {
+            if told(DICTIONARY_REASONS, &error) != Some(ours.code) {
+                return differ("a dictionary's verdict", ours, error);
+            }
+            agree("a refusal's place", ours, refused(ours.code, ours.place))?;
+            dictionary_place(dict, ours, words(&error))?;
+            agree("a name of a refused dictionary", reader.name(dict, 0), ours)?;
+            Tally::refuse(&mut tally.dictionaries_refused, ours.code);
+            Ok(None)
+        }
+    }
+}
+
+/// Compares a refusal's place, where the Rust or its library can tell it.
+fn dictionary_place(dict: &[u8], ours: Strip, told: &str) -> Compared {
+    let place = ours.place as usize;
+    let parts = || DictionaryParts::of(dict).expect("a count, since it is not short");
+    match ours.code {
+        10..=15 => agree("the place of a refusal that has none", place, 0),
+        16 => {
+            let region = parts()
+                .region(dict)
+                .expect("a region, since it is not short");
+            let prefix = std::str::from_utf8(region).map_err(|error| error.valid_up_to());
+            agree("the well-formed prefix", Err(place), prefix.map(drop))
+        }
+        17 => {
+            let offset = |entry| parts().offsets.number(dict, entry);
+            let range = match (offset(place), offset(place + 1)) {
+                (Some(start), Some(end)) => format!("range {start}..{end} "),
+                _ => "an entry".to_string(),
+            };
+            if told.contains(&range) {
+                return Ok(());
+            }
+            differ("the entry of bad offsets", ours, told)
+        }
+        _ => Ok(()),
+    }
+}
+
+/// Numbers below a count: all of few, and of many the first, the last and some between.
+fn some_of(count: usize) -> impl Iterator<Item = usize> {
+    let step = count.div_ceil(ASKED).max(1);
+    let last = count.checked_sub(1).filter(|last| last % step != 0);
+    (0..count).step_by(step).chain(last)
+}
+
+fn names(
+    reader: &impl Reader,
+    dict: &[u8],
+    theirs: &VariantMetadata,
+    tally: &mut Tally,
+) -> Compared {
+    for entry in some_of(theirs.len()) {
+        let ours = reader.name(dict, entry);
+        let Ok(name) = theirs.get(entry) else {
+            return differ("an entry's name", ours, "none");
+        };
+        let start = place_in(name.as_bytes(), dict);
+        let numbers = accepted(0, start, start + name.len());
+        agree("an entry's name", ours, numbers)?;
+        tally.names += 1;
+    }
+    for entry in [theirs.len(), theirs.len() + 1, usize::MAX] {
+        let ours = reader.name(dict, entry);
+        if let Ok(name) = theirs.get(entry) {
+            return differ("an entry past the count", ours, name);
+        }
+        agree("an entry past the count", ours, refused(31, 0))?;
+        tally.no_such_entry += 1;
+    }
+    Ok(())
+}
+
+/// Compares what can be asked of an object over a dictionary.
+pub fn object(
+    reader: &impl Reader,
+    known: &Known,
+    bytes: &[u8],
+    query: Option<&[u8]>,
+    tally: &mut Tally,
+) -> Compared {
+    let layer = reader.layer(known.dict, bytes);
+    let Some(metadata) = &known.theirs else {
+        agree("an object over a refused dictionary", layer, known.ours)?;
+        tally.over_refused += 1;
+        return same_refusal(reader, known.dict, bytes, layer);
+    };
+    if bytes.len() > LIMIT {
+        agree("an object over the limit", layer, refused(20, 0))?;
+        tally.over_limit += 1;
+        return same_refusal(reader, known.dict, bytes, layer);
+    }
+    if bytes.first().is_some_and(|header| header & 3 != 2) {
+        agree("a value of another type", layer, refused(22, 0))?;
+        tally.other_type += 1;
+        return same_refusal(reader, known.dict, bytes, layer);
+    }
+    let pair = Pair {
+        reader,
+        dict: known.dict,
+        metadata,
+        bytes,
+        layer,
+    };
+    if layer.code == OK {
+        pair.accepted(query, tally)
+    } else {
+        pair.refused(tally)
+    }
+}
+
+/// Our lookup and our listing refuse as our layer does, and the listing leaves the words.
+fn same_refusal(reader: &impl Reader, dict: &[u8], bytes: &[u8], layer: Strip) -> Compared {
+    agree(
+        "a lookup's refusal",
+        reader.lookup(dict, bytes, b"a"),
+        layer,
+    )?;
+    let mut words = [UNWRITTEN; 4];
+    agree(
+        "a listing's refusal",
+        reader.list(dict, bytes, &mut words),
+        layer,
+    )?;
+    agree("the words under a refusal", words, [UNWRITTEN; 4])
+}
+
+/// An object of the domain over a dictionary that both accept.
+struct Pair<'a, 'd, R> {
+    reader: &'a R,
+    dict: &'d [u8],
+    metadata: &'a VariantMetadata<'d>,
+    bytes: &'a [u8],
+    layer: Strip,
+}
+
+impl<'d, R: Reader> Pair<'_, 'd, R> {
+    fn theirs<'v>(&self, bytes: &'v [u8]) -> Result<VariantObject<'d, 'v>, String> {
+        VariantObject::try_new(self.metadata.clone(), bytes).map_err(|error| error.to_string())
+    }
+
+    fn refused(&self, tally: &mut Tally) -> Compared {
+        let layer = self.layer;
+        agree("a refusal's words", layer, refused(layer.code, layer.place))?;
+        let Err(error) = VariantObject::try_new(self.metadata.clone(), self.bytes) else {
+            return differ("an object's verdict", layer, "accepts");
+        };
+        if !may_be_object_number(&error, layer.code) {
+            return differ("the reason to refuse an object", layer, error);
+        }
+        if layer.code < 25 {
+            agree("the place of a refusal that has none", layer.place, 0)?;
+        }
+        if let Some(copy) = traced(self.bytes) {
+            if self.theirs(&copy).is_ok() {
+                return differ("the layer alone", layer, "accepts");
+            }
+            tally.traced += 1;
+        }
+        Tally::refuse(&mut tally.objects_refused, layer.code);
+        same_refusal(self.reader, self.dict, self.bytes, layer)
+    }
+
+    fn accepted(&self, query: Option<&[u8]>, tally: &mut Tally) -> Compared {
+        let fields = self.listed()?;
+        let queries = self.queries(&fields, query);
+        self.whole(&fields, &queries, tally)?;
+        self.alone(&fields, &queries, tally)?;
+        tally.fields += fields.len() as u64;
+        Ok(())
+    }
+
+    /// Our listing, after a look at what it may not touch.
+    fn listed(&self) -> Compared<Vec<Field>> {
+        let length = WORDS_PER_FIELD * self.layer.number as usize;
+        let mut words = vec![UNWRITTEN; length + 2];
+        let listed = self.reader.list(self.dict, self.bytes, &mut words);
+        agree("a listing's numbers", listed, self.layer)?;
+        let after = words.split_off(length);
+        agree("the words after a listing", after, vec![UNWRITTEN; 2])?;
+        if length > 0 {
+            let mut room = vec![UNWRITTEN; length - 1];
+            let listed = self.reader.list(self.dict, self.bytes, &mut room);
+            agree("a listing in too little room", listed, refused(41, 0))?;
+            agree(
+                "the words under 41",
+                room.iter().all(|&word| word == UNWRITTEN),
+                true,
+            )?;
+        }
+        let fields: Vec<Field> = lichenhusk::fields_of(&words).collect();
+        self.spans(&fields)?;
+        Ok(fields)
+    }
+
+    /// Each span runs to the least larger start, the trimmed end among them.
+    fn spans(&self, fields: &[Field]) -> Compared {
+        let mut borders: Vec<usize> = vec![self.layer.end as usize];
+        borders.extend(fields.iter().map(|field| field.start));
+        borders.sort_unstable();
+        for field in fields {
+            let above = borders.partition_point(|&border| border <= field.start);
+            let span = borders.get(above).map_or(0, |border| border - field.start);
+            agree("a field's span", field.span, span)?;
+        }
+        Ok(())
+    }
+
+    /// Names to look for: the fields', others of the dictionary, and names near these.
+    fn queries(&self, fields: &[Field], query: Option<&[u8]>) -> Vec<Vec<u8>> {
+        let name = |entry: usize| self.metadata.get(entry).unwrap_or_default().as_bytes();
+        let mut queries: Vec<Vec<u8>> = vec![b"".to_vec(), b"\xFF".to_vec()];
+        queries.extend(query.map(<[u8]>::to_vec));
+        for field in some_of(fields.len()) {
+            let name = name(fields[field].id as usize);
+            queries.push(name.to_vec());
+            queries.push([name, b"\0"].concat());
+            queries.push(name[..name.len().saturating_sub(1)].to_vec());
+        }
+        queries.extend(some_of(self.metadata.len()).map(|entry| name(entry).to_vec()));
+        queries
+    }
+
+    /// The object as it is: accepted exactly when each child is, and then the same throughout.
+    fn whole(&self, fields: &[Field], queries: &[Vec<u8>], tally: &mut Tally) -> Compared {
+        let end = self.layer.end as usize;
+        let children = fields.iter().all(|field| self.value(field.start).is_some());
+        let theirs = self.theirs(self.bytes);
+        if theirs.is_ok() != children {
+            let ours = format!(
+                "{:?}, children accepted by the Rust: {children}",
+                self.layer
+            );
+            return differ("an object's verdict", ours, theirs.map(|_| "accepts"));
+        }
+        let Ok(theirs) = theirs else {
+            tally.child_refused += 1;
+            tally.child_empty += u64::from(fields.iter().any(|field| field.start == end));
+            return Ok(());
+        };
+        agree("the trimmed end", end, theirs.value.len())?;
+        self.fields(&theirs, fields, |value, start| {
+            self.value(start)
+                .is_some_and(|ours| same_value(value, &ours))
+        })?;
+        for query in queries {
+            self.lookup(&theirs, query, tally, |value, start| {
+                self.value(start)
+                    .is_some_and(|ours| same_value(value, &ours))
+            })?;
+        }
+        tally.objects += 1;
+        Ok(())
+    }
+
+    /// The value that the Rust reads from a place of ours to the trimmed end.
+    fn value(&self, start: usize) -> Option<Variant<'d, '_>> {
+        let child = self.bytes.get(start..self.layer.end as usize)?;
+        Variant::try_new_with_metadata(self.metadata.clone(), child).ok()
+    }
+
+    /// The layer alone, by a copy with children that tell where they are.
+    fn alone(&self, fields: &[Field], queries: &[Vec<u8>], tally: &mut Tally) -> Compared {
+        let Some(copy) = traced(self.bytes) else {
+            return Ok(());
+        };
+        let theirs = match self.theirs(&copy) {
+            Ok(theirs) => theirs,
+            Err(error) => return differ("the layer alone", self.layer, error),
+        };
+        let end = theirs.value.len() - 1;
+        agree("the trimmed end", self.layer.end as usize, end)?;
+        self.fields(&theirs, fields, |value, start| {
+            traced_start(value, &copy) == Some(start)
+        })?;
+        for query in queries {
+            self.lookup(&theirs, query, tally, |value, start| {
+                traced_start(value, &copy) == Some(start)
+            })?;
+        }
+        tally.traced += 1;
+        Ok(())
+    }
+
+    /// Names in field order by our listing, and each field's value by its start.
+    fn fields(
+        &self,
+        theirs: &VariantObject<'d, '_>,
+        fields: &[Field],
+        is_at: impl Fn(&Variant, usize) -> bool,
+    ) -> Compared {
+        agree("the field count", self.layer.number as usize, theirs.len())?;
+        for (index, field) in fields.iter().enumerate() {
+            let ours = self.metadata.get(field.id as usize).ok();
+            let name = theirs.field_name(index);
+            let place = |name: Option<&str>| name.map(|name| place_in(name.as_bytes(), self.dict));
+            agree("a field's name", ours, name)?;
+            agree("the place of a field's name", place(ours), place(name))?;
+            match theirs.field(index) {
+                Some(value) if is_at(&value, field.start) => {}
+                value => return differ("a field's child", field, value),
+            }
+        }
+        Ok(())
+    }
+
+    /// A lookup finds what `get` yields, and nothing exactly where that is nothing.
+    fn lookup(
+        &self,
+        theirs: &VariantObject,
+        query: &[u8],
+        tally: &mut Tally,
+        is_at: impl Fn(&Variant, usize) -> bool,
+    ) -> Compared {
+        let ours = self.reader.lookup(self.dict, self.bytes, query);
+        let asked = format!("the field {}", hex(query));
+        let Ok(text) = std::str::from_utf8(query) else {
+            tally.not_text += 1;
+            return agree(&asked, ours, absent());
+        };
+        let Some(value) = theirs.get(text) else {
+            tally.absent += 1;
+            return agree(&asked, ours, absent());
+        };
+        let (field, start) = (ours.number as usize, ours.start as usize);
+        let found = accepted(field, start, self.layer.end as usize);
+        let named = theirs.field_name(field) == Some(text);
+        if ours != found || !named || !is_at(&value, start) {
+            return differ(&asked, ours, value);
+        }
+        tally.found += 1;
+        Ok(())
+    }
+}

@@ -1,0 +1,239 @@
+//! Readers that are wrong on purpose, to see that the comparison tells.
+
+use crate::ours::{Reader, absent, accepted, refused};
+use lichenhusk::{ABSENT, OK, Strip};
+
+/// What a wrong reader does wrong.
+#[derive(Clone, Copy, Debug, PartialEq, Eq)]
+pub enum Fault {
+    /// Says 13 to every dictionary and what is over it.
+    AlwaysShort,
+    /// Finds field 0 where a name is absent.
+    AbsentIsFound,
+    /// Says absent to every name.
+    AlwaysAbsent,
+    /// Says field 0 of every name that it finds.
+    AlwaysFieldZero,
+    /// Hands back the whole object as the child.
+    WholeObject,
+    /// Ends a child at the next larger offset.
+    EndsAtNextOffset,
+    /// Does not trim a dictionary's end.
+    UntrimmedDictionary,
+    /// Does not trim an object's end.
+    UntrimmedObject,
+    /// Takes the entry count from the header byte.
+    CountFromHeader,
+    /// Takes every entry number.
+    AnyEntry,
+    /// Cuts a name's last byte.
+    CutsNames,
+    /// Takes names that are not UTF-8.
+    TakesAnyBytes,
+    /// Says of bad UTF-8 that it begins a byte later.
+    LatePlace,
+    /// Takes offsets that cut a character.
+    CutsCharacters,
+    /// Takes a sorted dictionary that does not increase.
+    TakesAnyOrder,
+    /// Says short where a sum passes the u32 range.
+    Wraps,
+    /// Refuses a dictionary with an empty name.
+    NoEmptyNames,
+    /// Reads a dictionary over the limit.
+    NoLimit,
+    /// Takes ids that name no entry.
+    TakesAnyId,
+    /// Takes fields in any order.
+    TakesAnyFields,
+    /// Takes a value of any basic type.
+    TakesAnyType,
+    /// Refuses an object in which two fields share a child.
+    NoSharedChildren,
+    /// Refuses an object with a child of no bytes.
+    NoEmptyChildren,
+    /// Lists nothing and says that it did.
+    ListsNothing,
+    /// Lists spans of 0.
+    NoSpans,
+    /// Lists ids one too high.
+    WrongIds,
+    /// Writes a word after the listing.
+    WritesPastListing,
+    /// Writes a word though there is too little room.
+    WritesUnderRefusal,
+}
+
+/// Every fault.
+pub const ALL: [Fault; 28] = [
+    Fault::AlwaysShort,
+    Fault::AbsentIsFound,
+    Fault::AlwaysAbsent,
+    Fault::AlwaysFieldZero,
+    Fault::WholeObject,
+    Fault::EndsAtNextOffset,
+    Fault::UntrimmedDictionary,
+    Fault::UntrimmedObject,
+    Fault::CountFromHeader,
+    Fault::AnyEntry,
+    Fault::CutsNames,
+    Fault::TakesAnyBytes,
+    Fault::LatePlace,
+    Fault::CutsCharacters,
+    Fault::TakesAnyOrder,
+    Fault::Wraps,
+    Fault::NoEmptyNames,
+    Fault::NoLimit,
+    Fault::TakesAnyId,
+    Fault::TakesAnyFields,
+    Fault::TakesAnyType,
+    Fault::NoSharedChildren,
+    Fault::NoEmptyChildren,
+    Fault::ListsNothing,
+    Fault::NoSpans,
+    Fault::WrongIds,
+    Fault::WritesPastListing,
+    Fault::WritesUnderRefusal,
+];
+
+/// A right reader with a fault put over its answers.
+#[derive(Clone, Copy, Debug)]
+pub struct Faulty<R> {
+    /// The right one.
+    pub reader: R,
+    /// What is done wrong.
+    pub fault: Fault,
+}
+
+impl<R: Reader> Faulty<R> {
+    /// The refusals that a fault turns into acceptance.
+    fn takes(&self, code: u32) -> bool {
+        match self.fault {
+            Fault::TakesAnyBytes => code == 16,
+            Fault::CutsCharacters => code == 17,
+            Fault::TakesAnyOrder => code == 18,
+            Fault::NoLimit => code == 10,
+            Fault::TakesAnyType => code == 22,
+            Fault::TakesAnyId => code == 25,
+            Fault::TakesAnyFields => code == 26,
+            Fault::AnyEntry => code == 31,
+            _ => false,
+        }
+    }
+
+    /// A fault that lies in the strip alone.
+    fn wrong(&self, strip: Strip) -> Strip {
+        match self.fault {
+            Fault::AlwaysShort => refused(13, 0),
+            Fault::LatePlace if strip.code == 16 => refused(16, strip.place + 1),
+            Fault::Wraps if strip.code == 14 => refused(13, 0),
+            Fault::Wraps if strip.code == 24 => refused(23, 0),
+            _ if self.takes(strip.code) => accepted(0, 0, 0),
+            _ => strip,
+        }
+    }
+
+    /// The fields' starts, of an object that is accepted.
+    fn starts(&self, dict: &[u8], object: &[u8]) -> Vec<u32> {
+        let fields = self.reader.layer(dict, object).number as usize;
+        let mut words = vec![0; lichenhusk::WORDS_PER_FIELD * fields];
+        self.reader.list(dict, object, &mut words);
+        words.chunks_exact(3).map(|field| field[1]).collect()
+    }
+
+    fn wrong_layer(&self, dict: &[u8], object: &[u8], strip: Strip) -> Strip {
+        if strip.code != OK {
+            return self.wrong(strip);
+        }
+        match self.fault {
+            Fault::UntrimmedObject => {
+                accepted(strip.number as usize, strip.start as usize, object.len())
+            }
+            Fault::NoSharedChildren => {
+                let mut starts = self.starts(dict, object);
+                starts.sort_unstable();
+                match starts.windows(2).any(|pair| pair[0] == pair[1]) {
+                    true => refused(27, 0),
+                    false => strip,
+                }
+            }
+            Fault::NoEmptyChildren if self.starts(dict, object).contains(&strip.end) => {
+                refused(27, 0)
+            }
+            _ => self.wrong(strip),
+        }
+    }
+}
+
+impl<R: Reader> Reader for Faulty<R> {
+    fn dictionary(&self, dict: &[u8]) -> Strip {
+        let strip = self.reader.dictionary(dict);
+        if strip.code != OK {
+            return self.wrong(strip);
+        }
+        let empty_name = |entry| {
+            let name = self.reader.name(dict, entry);
+            name.start == name.end
+        };
+        match self.fault {
+            Fault::UntrimmedDictionary => accepted(strip.number as usize, 0, dict.len()),
+            Fault::CountFromHeader => accepted(dict[0] as usize & 15, 0, strip.end as usize),
+            Fault::NoEmptyNames if (0..strip.number as usize).any(empty_name) => refused(17, 0),
+            _ => self.wrong(strip),
+        }
+    }
+
+    fn name(&self, dict: &[u8], entry: usize) -> Strip {
+        let strip = self.reader.name(dict, entry);
+        match self.fault {
+            Fault::CutsNames if strip.start < strip.end => {
+                accepted(0, strip.start as usize, strip.end as usize - 1)
+            }
+            _ => self.wrong(strip),
+        }
+    }
+
+    fn layer(&self, dict: &[u8], object: &[u8]) -> Strip {
+        self.wrong_layer(dict, object, self.reader.layer(dict, object))
+    }
+
+    fn lookup(&self, dict: &[u8], object: &[u8], name: &[u8]) -> Strip {
+        let strip = self.reader.lookup(dict, object, name);
+        let (field, start, end) = (strip.number as usize, strip.start, strip.end as usize);
+        match (self.fault, strip.code) {
+            (Fault::AbsentIsFound, ABSENT) => accepted(0, 0, 0),
+            (Fault::AlwaysAbsent, OK) => absent(),
+            (Fault::AlwaysFieldZero, OK) => accepted(0, start as usize, end),
+            (Fault::WholeObject, OK) => accepted(field, 0, end),
+            (Fault::EndsAtNextOffset, OK) => {
+                let starts = self.starts(dict, object);
+                let next = starts.into_iter().filter(|&other| other > start).min();
+                accepted(
+                    field,
+                    start as usize,
+                    next.map_or(end, |next| next as usize),
+                )
+            }
+            _ => self.wrong(strip),
+        }
+    }
+
+    fn list(&self, dict: &[u8], object: &[u8], words: &mut [u32]) -> Strip {
+        let room = words.len();
+        if self.fault == Fault::ListsNothing {
+            return self.reader.list(dict, object, &mut words.to_vec());
+        }
+        let strip = self.wrong_layer(dict, object, self.reader.list(dict, object, words));
+        let listed = room.min(3 * strip.number as usize);
+        match (self.fault, strip.code) {
+            (Fault::NoSpans, OK) => words[..listed].chunks_mut(3).for_each(|field| field[2] = 0),
+            (Fault::WrongIds, OK) => words[..listed]
+                .chunks_mut(3)
+                .for_each(|field| field[0] += 1),
+            (Fault::WritesPastListing, OK) if listed < room => words[listed] = 0,
+            (Fault::WritesUnderRefusal, 41) if room > 0 => words[0] = 0,
+            _ => {}
+        }
+        strip
+    }
+}

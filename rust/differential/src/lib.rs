@@ -1,0 +1,66 @@
+//! Lichenhusk and the Rust crate that it was ported from, given the same bytes.
+//!
+//! [`compare`] says what must agree; [`ours`] and [`original`] are the two sides; [`fixed`],
+//! [`exhaustive`], [`generate`] and [`damage`] make the inputs; [`run`] goes through them,
+//! counting in a [`tally`], and has [`shrink`] make an input that disagrees as small as it can.
+//! [`replay`] writes answers of the Rust's down, to be asked again where it is not at hand.
+
+pub mod compare;
+pub mod damage;
+pub mod encode;
+pub mod exhaustive;
+pub mod faults;
+pub mod fixed;
+pub mod generate;
+pub mod original;
+pub mod ours;
+pub mod random;
+pub mod reading;
+pub mod replay;
+pub mod run;
+pub mod shrink;
+pub mod tally;
+
+/// What both sides are asked about. Without an object, the dictionary alone.
+#[derive(Clone, Debug, Default, PartialEq, Eq)]
+pub struct Input {
+    /// The dictionary's bytes.
+    pub dict: Vec<u8>,
+    /// The object's bytes.
+    pub object: Option<Vec<u8>>,
+    /// A name to look for beside those that the two suggest.
+    pub query: Option<Vec<u8>>,
+}
+
+impl Input {
+    /// A dictionary alone.
+    pub fn dictionary(dict: Vec<u8>) -> Input {
+        Input {
+            dict,
+            ..Input::default()
+        }
+    }
+
+    /// A dictionary and an object over it.
+    pub fn object(dict: Vec<u8>, object: Vec<u8>) -> Input {
+        Input {
+            dict,
+            object: Some(object),
+            query: None,
+        }
+    }
+
+    /// How many bytes there are in all.
+    pub fn size(&self) -> usize {
+        let length = |bytes: &Option<Vec<u8>>| bytes.as_ref().map_or(0, Vec::len);
+        self.dict.len() + length(&self.object) + length(&self.query)
+    }
+}
+
+/// Bytes in hex without spaces, or `-` for none.
+pub fn hex(bytes: &[u8]) -> String {
+    if bytes.is_empty() {
+        return "-".to_string();
+    }
+    bytes.iter().map(|byte| format!("{byte:02X}")).collect()
+}

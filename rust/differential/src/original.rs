@@ -1,0 +1,113 @@
+//! The Rust's side: what its values and errors tell, and objects that make it tell more.
+
+use crate::reading::ObjectParts;
+use arrow_schema::ArrowError;
+use parquet_variant::Variant;
+
+/// Where a part of a buffer starts in it.
+pub fn place_in(part: &[u8], whole: &[u8]) -> usize {
+    part.as_ptr() as usize - whole.as_ptr() as usize
+}
+
+/// Whether two parts are the same bytes of the same buffer.
+fn same_part(a: &[u8], b: &[u8]) -> bool {
+    a.as_ptr() == b.as_ptr() && a.len() == b.len()
+}
+
+/// Whether two values that were read from one buffer are the same: floats by their bits, what
+/// keeps its bytes by where these are, and the others as the Rust compares them.
+pub fn same_value(a: &Variant, b: &Variant) -> bool {
+    use Variant::*;
+    match (a, b) {
+        (Float(a), Float(b)) => a.to_bits() == b.to_bits(),
+        (Double(a), Double(b)) => a.to_bits() == b.to_bits(),
+        (Object(a), Object(b)) => same_part(a.value, b.value),
+        (List(a), List(b)) => same_part(a.value, b.value),
+        (Binary(a), Binary(b)) => same_part(a, b),
+        (String(a), String(b)) => same_part(a.as_bytes(), b.as_bytes()),
+        (ShortString(a), ShortString(b)) => same_part(a.as_bytes(), b.as_bytes()),
+        _ => a == b,
+    }
+}
+
+/// What stands for a child in [`traced`]: a short string of no bytes.
+const EMPTY_SHORT_STRING: u8 = 0x01;
+
+/// A copy of an object in which every child is an empty short string; nothing for bytes that
+/// have not all their parts.
+///
+/// The Rust accepts such children, so that its verdict on the copy is one on the layer alone, and
+/// a short string's address tells from where it was read. The region gets one byte more, and the
+/// last offset says so, since a child at the region's very end would have no bytes, which the
+/// Rust refuses; nothing again where that offset's width has no room for one more.
+pub fn traced(object: &[u8]) -> Option<Vec<u8>> {
+    let parts = ObjectParts::of(object)?;
+    let length = parts.region(object)?.len() + 1;
+    if length > parts.offsets.greatest() {
+        return None;
+    }
+    let mut copy = object[..parts.offsets.end()].to_vec();
+    let last = parts.offsets.count - 1;
+    parts.offsets.write(&mut copy, last, length);
+    copy.resize(copy.len() + length, EMPTY_SHORT_STRING);
+    Some(copy)
+}
+
+/// Where a value of a [`traced`] object was read; nothing for a value that is not one of its
+/// short strings.
+pub fn traced_start(value: &Variant, traced: &[u8]) -> Option<usize> {
+    match value {
+        Variant::ShortString(text) if text.is_empty() => {
+            Some(place_in(text.as_bytes(), traced) - 1)
+        }
+        _ => None,
+    }
+}
+
+/// The Rust's words for a refusal.
+pub fn words(error: &ArrowError) -> &str {
+    match error {
+        ArrowError::InvalidArgumentError(text)
+        | ArrowError::CastError(text)
+        | ArrowError::ParseError(text) => text,
+    }
+}
+
+/// Words of the Rust's that tell a reason, and our number for it.
+pub type Reasons = [(&'static str, u32)];
+
+/// Our number for a refusal of the Rust's, by its words.
+pub fn told(reasons: &Reasons, error: &ArrowError) -> Option<u32> {
+    let words = words(error);
+    let reason = reasons.iter().find(|(telling, _)| words.contains(telling));
+    reason.map(|&(_, number)| number)
+}
+
+/// The reasons to refuse a dictionary.
+pub const DICTIONARY_REASONS: &Reasons = &[
+    ("version", 12),
+    ("extract", 13),
+    ("First offset", 15),
+    ("range", 17),
+    ("unique", 18),
+    ("UTF-8", 16),
+    ("overflow", 14),
+    ("empty", 11),
+];
+
+/// Whether the reason that the Rust gives for refusing an object may be one of our numbers.
+///
+/// Over an unsorted dictionary it tells an unknown id by the read that fails. With 27 it may
+/// have met a child before that it refuses, so that any reason will do.
+pub fn may_be_object_number(error: &ArrowError, number: u32) -> bool {
+    let words = words(error);
+    match number {
+        21 => words.contains("empty"),
+        23 => words.contains("extract"),
+        24 => words.contains("overflow"),
+        25 => words.contains("field id") || words.contains("extract"),
+        26 => words.contains("not sorted"),
+        27 => true,
+        _ => false,
+    }
+}

@@ -1,0 +1,80 @@
+//! Our side: the functions of the archive, as strips.
+
+use lichenhusk::{STRIP_BYTES, Strip, raw};
+
+/// What can be asked of our side. It is a trait so that a test can put a wrong reader in the
+/// archive's place and see that the comparison tells.
+pub trait Reader {
+    /// Entry count, 0, trimmed end.
+    fn dictionary(&self, dict: &[u8]) -> Strip;
+    /// 0, start, end.
+    fn name(&self, dict: &[u8], entry: usize) -> Strip;
+    /// Field count, region start, trimmed end.
+    fn layer(&self, dict: &[u8], object: &[u8]) -> Strip;
+    /// Field, start, end.
+    fn lookup(&self, dict: &[u8], object: &[u8], name: &[u8]) -> Strip;
+    /// As the layer, and the words filled.
+    fn list(&self, dict: &[u8], object: &[u8], words: &mut [u32]) -> Strip;
+}
+
+/// The archive itself.
+#[derive(Clone, Copy, Debug, Default)]
+pub struct Archive;
+
+impl Reader for Archive {
+    fn dictionary(&self, dict: &[u8]) -> Strip {
+        filled(|strip| raw::dictionary(dict, strip))
+    }
+
+    fn name(&self, dict: &[u8], entry: usize) -> Strip {
+        filled(|strip| raw::name(dict, entry, strip))
+    }
+
+    fn layer(&self, dict: &[u8], object: &[u8]) -> Strip {
+        filled(|strip| raw::layer(dict, object, strip))
+    }
+
+    fn lookup(&self, dict: &[u8], object: &[u8], name: &[u8]) -> Strip {
+        filled(|strip| raw::lookup(dict, object, name, strip))
+    }
+
+    fn list(&self, dict: &[u8], object: &[u8], words: &mut [u32]) -> Strip {
+        filled(|strip| raw::list(dict, object, words, strip))
+    }
+}
+
+/// The strip of a call. It holds other bytes before, so that each of the twenty must be written.
+fn filled(call: impl FnOnce(&mut [u8]) -> u32) -> Strip {
+    let mut bytes = [0xEE; STRIP_BYTES];
+    let code = call(&mut bytes);
+    let strip = Strip::read(&bytes);
+    assert_eq!(strip.code, code, "the code returned is the code written");
+    strip
+}
+
+/// The strip of a refusal, or of absence.
+pub fn refused(code: u32, place: u32) -> Strip {
+    Strip {
+        code,
+        number: 0,
+        start: 0,
+        end: 0,
+        place,
+    }
+}
+
+/// The strip of what is accepted or found.
+pub fn accepted(number: usize, start: usize, end: usize) -> Strip {
+    Strip {
+        code: lichenhusk::OK,
+        number: number as u32,
+        start: start as u32,
+        end: end as u32,
+        place: 0,
+    }
+}
+
+/// The strip of a name that no field has.
+pub fn absent() -> Strip {
+    refused(lichenhusk::ABSENT, 0)
+}

@@ -1,0 +1,132 @@
+//! Where the parts of a dictionary or an object stand, by its header: the positions alone, with
+//! no verdict. It serves to damage a part on purpose, and to put other children into an object.
+
+/// A row of numbers of one width.
+#[derive(Clone, Copy, Debug, PartialEq, Eq)]
+pub struct Row {
+    /// Where it starts.
+    pub at: usize,
+    /// Bytes of a number.
+    pub width: usize,
+    /// How many numbers.
+    pub count: usize,
+}
+
+impl Row {
+    /// Where the row ends.
+    pub fn end(&self) -> usize {
+        self.at + self.width * self.count
+    }
+
+    /// Where one of its numbers starts.
+    pub fn place(&self, index: usize) -> usize {
+        self.at + self.width * index
+    }
+
+    /// The greatest number of its width.
+    pub fn greatest(&self) -> usize {
+        (1 << (8 * self.width)) - 1
+    }
+
+    /// One of its numbers, if the bytes have it.
+    pub fn number(&self, bytes: &[u8], index: usize) -> Option<usize> {
+        let at = self.place(index);
+        let held = bytes.get(at..at + self.width)?;
+        let (low, rest) = held.split_first()?;
+        let higher = rest
+            .iter()
+            .rev()
+            .fold(0, |sum, &byte| sum << 8 | byte as usize);
+        Some(higher << 8 | *low as usize)
+    }
+
+    /// Writes one of its numbers, cut to its width, if the bytes have it.
+    pub fn write(&self, bytes: &mut [u8], index: usize, number: usize) {
+        let at = self.place(index);
+        if let Some(held) = bytes.get_mut(at..at + self.width) {
+            held.copy_from_slice(&number.to_le_bytes()[..self.width]);
+        }
+    }
+}
+
+/// The parts of a dictionary.
+#[derive(Clone, Copy, Debug, PartialEq, Eq)]
+pub struct DictionaryParts {
+    /// The entry count, a row of one.
+    pub count: Row,
+    /// The offsets, one more than entries.
+    pub offsets: Row,
+}
+
+/// The parts of an object.
+#[derive(Clone, Copy, Debug, PartialEq, Eq)]
+pub struct ObjectParts {
+    /// The field count, a row of one.
+    pub count: Row,
+    /// The field ids.
+    pub ids: Row,
+    /// The offsets, one more than fields.
+    pub offsets: Row,
+}
+
+impl DictionaryParts {
+    /// The parts by the header, if it and the count are there.
+    pub fn of(dict: &[u8]) -> Option<DictionaryParts> {
+        let width = (dict.first()? >> 6) as usize + 1;
+        let count = Row {
+            at: 1,
+            width,
+            count: 1,
+        };
+        let offsets = Row {
+            at: count.end(),
+            width,
+            count: count.number(dict, 0)? + 1,
+        };
+        Some(DictionaryParts { count, offsets })
+    }
+
+    /// The names' bytes, if they are all there.
+    pub fn region<'d>(&self, dict: &'d [u8]) -> Option<&'d [u8]> {
+        region(self.offsets, dict)
+    }
+}
+
+impl ObjectParts {
+    /// The parts by the header, if it and the count are there.
+    pub fn of(object: &[u8]) -> Option<ObjectParts> {
+        let header = *object.first()? as usize;
+        let count = Row {
+            at: 1,
+            width: if header & 0x40 != 0 { 4 } else { 1 },
+            count: 1,
+        };
+        let fields = count.number(object, 0)?;
+        let ids = Row {
+            at: count.end(),
+            width: (header >> 4 & 3) + 1,
+            count: fields,
+        };
+        let offsets = Row {
+            at: ids.end(),
+            width: (header >> 2 & 3) + 1,
+            count: fields + 1,
+        };
+        Some(ObjectParts {
+            count,
+            ids,
+            offsets,
+        })
+    }
+
+    /// The children's bytes, if they are all there.
+    pub fn region<'o>(&self, object: &'o [u8]) -> Option<&'o [u8]> {
+        region(self.offsets, object)
+    }
+}
+
+/// What the last offset says follows the offsets, if it is all there.
+fn region(offsets: Row, bytes: &[u8]) -> Option<&[u8]> {
+    let length = offsets.number(bytes, offsets.count - 1)?;
+    bytes.get(offsets.end()..)?.get(..length)
+}

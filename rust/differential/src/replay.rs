@@ -1,0 +1,260 @@
+//! Answers of the Rust's, written down to be asked again where it is not at hand.
+//!
+//! A line is a case as `variant batch` reads it, then ` => ` and what the Rust answers; the
+//! format is in rust/README.md. Nothing of our side goes into a line.
+
+use crate::damage::damaged;
+use crate::fixed;
+use crate::generate::good;
+use crate::original::{DICTIONARY_REASONS, Reasons, place_in, told, traced, traced_start};
+use crate::random::Random;
+use crate::reading::ObjectParts;
+use crate::{Input, hex};
+use lichenhusk::LIMIT;
+use parquet_variant::{VariantMetadata, VariantObject};
+use std::collections::{BTreeMap, BTreeSet};
+
+/// The longest line that is taken.
+const LONGEST: usize = 130;
+
+/// The most bytes in all.
+const MOST_BYTES: usize = 250_000;
+
+/// Inputs that are drawn before each class may have one line more.
+const ROUND: usize = 3_000;
+
+/// Rounds before giving up.
+const ROUNDS: usize = 200;
+
+/// So many lines at most, chosen over all answers and shapes, in order.
+pub fn lines(seed: u64, most: usize) -> Vec<String> {
+    let mut chosen = Chosen::new(most);
+    for input in fixed::inputs() {
+        chosen.take(&input, usize::MAX);
+    }
+    let mut random = Random::seeded(seed);
+    for draw in 0..ROUNDS * ROUND {
+        if !chosen.has_room() {
+            break;
+        }
+        let whole = good(&mut random);
+        let each = 1 + draw / ROUND;
+        chosen.take(&damaged(&mut random, &whole), each);
+        chosen.take(&whole, each);
+    }
+    chosen.lines.into_iter().collect()
+}
+
+/// The lines so far, and how many there are of each class.
+struct Chosen {
+    lines: BTreeSet<String>,
+    classes: BTreeMap<String, usize>,
+    bytes: usize,
+    most: usize,
+}
+
+impl Chosen {
+    fn new(most: usize) -> Chosen {
+        Chosen {
+            lines: BTreeSet::new(),
+            classes: BTreeMap::new(),
+            bytes: 0,
+            most,
+        }
+    }
+
+    fn has_room(&self) -> bool {
+        self.lines.len() < self.most && self.bytes + LONGEST < MOST_BYTES
+    }
+
+    /// Takes an input's lines whose class has fewer than so many.
+    fn take(&mut self, input: &Input, each: usize) {
+        if 2 * input.size() > LONGEST {
+            return;
+        }
+        for answer in answers(input) {
+            let line = answer.line();
+            if !self.has_room() || line.len() > LONGEST || self.lines.contains(&line) {
+                continue;
+            }
+            let count = self.classes.entry(answer.class(input)).or_default();
+            if *count < each {
+                *count += 1;
+                self.bytes += line.len() + 1;
+                self.lines.insert(line);
+            }
+        }
+    }
+}
+
+/// A case and what the Rust says to it.
+struct Answer {
+    case: String,
+    says: String,
+}
+
+impl Answer {
+    fn line(&self) -> String {
+        format!("{} => {}", self.case, self.says)
+    }
+
+    /// What is asked, the answer's word or a refusal's number, and the shapes by the headers of
+    /// what was read.
+    fn class(&self, input: &Input) -> String {
+        let kind = self.case.split(' ').next().unwrap_or_default();
+        let says = match self.says.starts_with("refuses") {
+            true => &self.says,
+            false => self.says.split(' ').next().unwrap_or_default(),
+        };
+        let of_dictionary = says.starts_with("refuses 1");
+        let (dict_bits, object_bits) = match kind {
+            "dictionary" => (WIDTH | SORTED, 0),
+            _ if of_dictionary => (0, 0),
+            "name" => (WIDTH | SORTED, 0),
+            _ => (SORTED, OBJECT_SHAPE),
+        };
+        let header = |bytes: &[u8], kept: u8| bytes.first().map(|byte| byte & kept);
+        let dict = header(&input.dict, dict_bits);
+        let object = header(input.object.as_deref().unwrap_or_default(), object_bits);
+        format!("{kind} {says} {dict:?} {object:?}")
+    }
+}
+
+/// The width's bits of a dictionary's header.
+const WIDTH: u8 = 0xC0;
+/// The bit of a dictionary's header that says sorted.
+const SORTED: u8 = 0x10;
+/// The bits of an object's header for both widths and the long count.
+const OBJECT_SHAPE: u8 = 0x7C;
+
+/// All that is asked of an input, as far as it is in the domain.
+fn answers(input: &Input) -> Vec<Answer> {
+    let dict = &input.dict;
+    let mut all = Vec::new();
+    if dict.len() > LIMIT {
+        return all;
+    }
+    all.push(Answer {
+        case: format!("dictionary {}", hex(dict)),
+        says: dictionary(dict),
+    });
+    let count = VariantMetadata::try_new(dict).map_or(0, |metadata| metadata.len());
+    for entry in [0, count / 2, count.saturating_sub(1), count] {
+        all.push(Answer {
+            case: format!("name {} {entry}", hex(dict)),
+            says: name(dict, entry),
+        });
+    }
+    let Some(object) = &input.object else {
+        return all;
+    };
+    if object.len() > LIMIT || object.first().is_some_and(|header| header & 3 != 2) {
+        return all;
+    }
+    if let Some(says) = layer(dict, object) {
+        let case = format!("layer {} {}", hex(dict), hex(object));
+        all.push(Answer { case, says });
+    }
+    all.extend(lookups(dict, object, input.query.as_deref()));
+    all
+}
+
+fn dictionary(dict: &[u8]) -> String {
+    match VariantMetadata::try_new(dict) {
+        Ok(metadata) => format!("accepts {} {}", metadata.len(), metadata.size()),
+        Err(error) => refuses(told(DICTIONARY_REASONS, &error)),
+    }
+}
+
+fn refuses(number: Option<u32>) -> String {
+    match number {
+        Some(number) => format!("refuses {number}"),
+        None => "refuses -".to_string(),
+    }
+}
+
+fn name(dict: &[u8], entry: usize) -> String {
+    let metadata = match VariantMetadata::try_new(dict) {
+        Ok(metadata) => metadata,
+        Err(error) => return refuses(told(DICTIONARY_REASONS, &error)),
+    };
+    match metadata.get(entry) {
+        Ok(name) => {
+            let start = place_in(name.as_bytes(), dict);
+            format!("at {start} {}", start + name.len())
+        }
+        Err(_) => refuses(Some(31)),
+    }
+}
+
+/// What the Rust says to an object; nothing where it cannot be told whether it is for a child.
+fn layer(dict: &[u8], object: &[u8]) -> Option<String> {
+    let metadata = match VariantMetadata::try_new(dict) {
+        Ok(metadata) => metadata,
+        Err(error) => return Some(refuses(told(DICTIONARY_REASONS, &error))),
+    };
+    let error = match VariantObject::try_new(metadata.clone(), object) {
+        Ok(theirs) => return Some(accepts("accepts", &theirs, 0)),
+        Err(error) => error,
+    };
+    if let Some(copy) = traced(object) {
+        return Some(match VariantObject::try_new(metadata, &copy) {
+            Ok(theirs) => accepts("child", &theirs, 1),
+            Err(error) => refuses(told(FIELD_REASONS, &error)),
+        });
+    }
+    match has_all_parts(object) {
+        true => None,
+        false => Some(refuses(told(HEADER_REASONS, &error))),
+    }
+}
+
+/// Field count and trimmed end, less what was added to the object.
+fn accepts(word: &str, theirs: &VariantObject, added: usize) -> String {
+    format!("{word} {} {}", theirs.len(), theirs.value.len() - added)
+}
+
+/// Of an object that is cut.
+const HEADER_REASONS: &Reasons = &[("empty", 21), ("extract", 23), ("overflow", 24)];
+
+/// Of a [`traced`] copy, where a child of no bytes is one past the end of the object's own. Over
+/// an unsorted dictionary it does not tell an unknown id from an offset past the end.
+const FIELD_REASONS: &Reasons = &[("field id", 25), ("not sorted", 26), ("empty", 27)];
+
+/// Whether nothing of an object is cut. If something is, that is what the Rust refuses.
+fn has_all_parts(object: &[u8]) -> bool {
+    ObjectParts::of(object).is_some_and(|parts| parts.region(object).is_some())
+}
+
+/// Lookups in an object that the Rust accepts: all fields' names, the query, and names near.
+fn lookups(dict: &[u8], object: &[u8], query: Option<&[u8]>) -> Vec<Answer> {
+    let accepted = VariantMetadata::try_new(dict)
+        .and_then(|metadata| VariantObject::try_new(metadata, object));
+    let (Ok(theirs), Some(copy)) = (accepted, traced(object)) else {
+        return Vec::new();
+    };
+    let mut names: Vec<Vec<u8>> = vec![Vec::new()];
+    names.extend(query.map(<[u8]>::to_vec));
+    for field in (0..theirs.len()).filter_map(|field| theirs.field_name(field)) {
+        names.push(field.as_bytes().to_vec());
+        names.push(format!("{field}a").into_bytes());
+    }
+    let answer = |name: Vec<u8>| {
+        let text = std::str::from_utf8(&name).ok()?;
+        Some(Answer {
+            case: format!("lookup {} {} {}", hex(dict), hex(object), hex(&name)),
+            says: lookup(&theirs, &copy, text)?,
+        })
+    };
+    names.into_iter().filter_map(answer).collect()
+}
+
+fn lookup(theirs: &VariantObject, copy: &[u8], name: &str) -> Option<String> {
+    if theirs.get(name).is_none() {
+        return Some("absent".to_string());
+    }
+    let field = (0..theirs.len()).find(|&field| theirs.field_name(field) == Some(name))?;
+    let alone = VariantObject::try_new(theirs.metadata.clone(), copy).ok()?;
+    let start = traced_start(&alone.get(name)?, copy)?;
+    Some(format!("found {field} {start} {}", theirs.value.len()))
+}

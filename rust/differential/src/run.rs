@@ -1,0 +1,314 @@
+//! A run: inputs of every kind through the comparison, within a time.
+
+use crate::compare::{self, Compared, Disagreement, Known};
+use crate::damage::damaged;
+use crate::exhaustive::{
+    DICTIONARY_BYTES, DICTIONARY_HEADERS, OBJECT_BYTES, OBJECT_HEADERS, all_bytes, each,
+};
+use crate::fixed::{self, SORTED, UNSORTED};
+use crate::generate::good;
+use crate::ours::Reader;
+use crate::random::Random;
+use crate::shrink::smallest;
+use crate::tally::{Tally, grouped};
+use crate::{Input, hex};
+use std::fmt;
+use std::panic::{AssertUnwindSafe, catch_unwind};
+use std::time::{Duration, Instant};
+
+/// How much a run goes through.
+#[derive(Clone, Copy, Debug)]
+pub struct Settings {
+    /// The seed of the generated inputs.
+    pub seed: u64,
+    /// How many inputs are generated, good ones and damaged ones together.
+    pub generated: u64,
+    /// The length up to which every string of bytes is tried.
+    pub every: usize,
+    /// The length up to which every string of telling bytes is tried.
+    pub telling: usize,
+    /// When to stop all the same.
+    pub limit: Duration,
+}
+
+/// Damaged copies of each good input.
+const COPIES: usize = 3;
+
+/// How a run ended.
+pub struct Outcome {
+    /// The inputs of each kind, and the time they took.
+    pub kinds: Vec<(&'static str, u64, Duration)>,
+    /// What was seen.
+    pub tally: Tally,
+    /// The slowest generated input, and its time.
+    pub slowest: (Duration, Input),
+    /// Whether the limit of time came before the end.
+    pub cut: bool,
+    /// An input that disagrees, made small, and where the answers differ.
+    pub disagreement: Option<(Input, Disagreement)>,
+}
+
+impl Outcome {
+    /// How many inputs were compared.
+    pub fn inputs(&self) -> u64 {
+        self.kinds.iter().map(|(_, count, _)| count).sum()
+    }
+}
+
+/// Why a run stops before its end.
+enum Stop {
+    Time,
+    Disagreement(Box<Input>),
+}
+
+type Going = Result<(), Stop>;
+
+struct Run<'r, R> {
+    reader: &'r R,
+    settings: Settings,
+    started: Instant,
+    count: u64,
+    outcome: Outcome,
+}
+
+/// Goes through all inputs of the settings.
+pub fn run(reader: &impl Reader, settings: Settings) -> Outcome {
+    let mut run = Run {
+        reader,
+        settings,
+        started: Instant::now(),
+        count: 0,
+        outcome: Outcome {
+            kinds: Vec::new(),
+            tally: Tally::default(),
+            slowest: (Duration::ZERO, Input::default()),
+            cut: false,
+            disagreement: None,
+        },
+    };
+    match run.all() {
+        Ok(()) => {}
+        Err(Stop::Time) => run.outcome.cut = true,
+        Err(Stop::Disagreement(input)) => {
+            let small = smallest(*input, |input| disagreement(reader, input).is_some());
+            let found = disagreement(reader, &small).expect("only what disagrees is kept");
+            run.outcome.disagreement = Some((small, found));
+        }
+    }
+    run.outcome
+}
+
+/// Where the two sides differ on an input; a panic of either side is a difference.
+pub fn disagreement(reader: &impl Reader, input: &Input) -> Option<Disagreement> {
+    caught(|| compare::input(reader, input, &mut Tally::default())).err()
+}
+
+fn caught<T>(comparison: impl FnOnce() -> Compared<T>) -> Compared<T> {
+    catch_unwind(AssertUnwindSafe(comparison)).unwrap_or_else(|panic| {
+        let text = panic.downcast_ref::<String>().cloned();
+        let text = text.or_else(|| panic.downcast_ref::<&str>().map(|text| text.to_string()));
+        Err(Disagreement {
+            asked: "all that can be asked".to_string(),
+            ours: "one of the two sides panics".to_string(),
+            theirs: text.unwrap_or_default(),
+        })
+    })
+}
+
+impl<R: Reader> Run<'_, R> {
+    fn all(&mut self) -> Going {
+        self.kind(
+            "fixed: worked cases, limits of length, nesting",
+            Self::fixed,
+        )?;
+        self.kind("every dictionary of few bytes", Self::every_dictionary)?;
+        self.kind(
+            "every object of few bytes, two dictionaries",
+            Self::every_object,
+        )?;
+        self.kind(
+            "every dictionary of telling bytes",
+            Self::telling_dictionaries,
+        )?;
+        self.kind(
+            "every object of telling bytes, two dictionaries",
+            Self::telling_objects,
+        )?;
+        self.kind("generated, and damaged copies", Self::generated)
+    }
+
+    fn kind(&mut self, name: &'static str, go: fn(&mut Self) -> Going) -> Going {
+        let started = Instant::now();
+        self.count = 0;
+        let going = go(self);
+        let kind = (name, self.count, started.elapsed());
+        self.outcome.kinds.push(kind);
+        going
+    }
+
+    fn in_time(&self) -> Going {
+        match self.started.elapsed() < self.settings.limit {
+            true => Ok(()),
+            false => Err(Stop::Time),
+        }
+    }
+
+    /// Looks at the clock once in many inputs.
+    fn sometimes_in_time(&self) -> Going {
+        match self.count.is_multiple_of(4096) {
+            true => self.in_time(),
+            false => Ok(()),
+        }
+    }
+
+    fn input(&mut self, input: &Input) -> Going {
+        self.in_time()?;
+        self.count += 1;
+        let started = Instant::now();
+        let tally = &mut self.outcome.tally;
+        caught(|| compare::input(self.reader, input, tally))
+            .map_err(|_| Stop::Disagreement(Box::new(input.clone())))?;
+        let taken = started.elapsed();
+        if taken > self.outcome.slowest.0 {
+            self.outcome.slowest = (taken, input.clone());
+        }
+        Ok(())
+    }
+
+    fn dictionary(&mut self, dict: &[u8]) -> Going {
+        self.sometimes_in_time()?;
+        self.count += 1;
+        let tally = &mut self.outcome.tally;
+        match caught(|| compare::dictionary(self.reader, dict, tally).map(drop)) {
+            Ok(()) => Ok(()),
+            Err(_) => Err(Stop::Disagreement(Box::new(Input::dictionary(
+                dict.to_vec(),
+            )))),
+        }
+    }
+
+    fn object(&mut self, known: &Known, dict: &[u8], object: &[u8]) -> Going {
+        self.sometimes_in_time()?;
+        self.count += 1;
+        let tally = &mut self.outcome.tally;
+        match caught(|| compare::object(self.reader, known, object, None, tally)) {
+            Ok(()) => Ok(()),
+            Err(_) => Err(Stop::Disagreement(Box::new(Input::object(
+                dict.to_vec(),
+                object.to_vec(),
+            )))),
+        }
+    }
+
+    fn fixed(&mut self) -> Going {
+        fixed::inputs()
+            .iter()
+            .try_for_each(|input| self.input(input))
+    }
+
+    fn every_dictionary(&mut self) -> Going {
+        (0..=self.settings.every).try_for_each(|length| {
+            each(length, &all_bytes(), &all_bytes(), |dict| {
+                self.dictionary(dict)
+            })
+        })
+    }
+
+    fn telling_dictionaries(&mut self) -> Going {
+        (4..=self.settings.telling).try_for_each(|length| {
+            each(length, &DICTIONARY_HEADERS, &DICTIONARY_BYTES, |dict| {
+                self.dictionary(dict)
+            })
+        })
+    }
+
+    fn every_object(&mut self) -> Going {
+        let lengths = 0..=self.settings.every;
+        self.objects(lengths.map(|length| (length, all_bytes().to_vec(), all_bytes().to_vec())))
+    }
+
+    fn telling_objects(&mut self) -> Going {
+        let lengths = 4..=self.settings.telling;
+        let heads = OBJECT_HEADERS.to_vec();
+        let tails = OBJECT_BYTES.to_vec();
+        self.objects(lengths.map(|length| (length, heads.clone(), tails.clone())))
+    }
+
+    /// Every object of some lengths and alphabets, over both dictionaries.
+    fn objects(&mut self, alphabets: impl Iterator<Item = (usize, Vec<u8>, Vec<u8>)>) -> Going {
+        let alphabets: Vec<_> = alphabets.collect();
+        for dict in [SORTED, UNSORTED] {
+            let reader = self.reader;
+            let Ok(known) = caught(|| compare::dictionary(reader, dict, &mut Tally::default()))
+            else {
+                return Err(Stop::Disagreement(Box::new(Input::dictionary(
+                    dict.to_vec(),
+                ))));
+            };
+            for (length, heads, tails) in &alphabets {
+                each(*length, heads, tails, |object| {
+                    self.object(&known, dict, object)
+                })?;
+            }
+        }
+        Ok(())
+    }
+
+    fn generated(&mut self) -> Going {
+        let mut random = Random::seeded(self.settings.seed);
+        while self.count < self.settings.generated {
+            let input = good(&mut random);
+            self.input(&input)?;
+            for _ in 0..COPIES {
+                self.input(&damaged(&mut random, &input))?;
+            }
+        }
+        Ok(())
+    }
+}
+
+impl fmt::Display for Outcome {
+    fn fmt(&self, to: &mut fmt::Formatter<'_>) -> fmt::Result {
+        writeln!(to, "inputs")?;
+        for (name, count, time) in &self.kinds {
+            let seconds = time.as_secs_f64();
+            writeln!(to, "  {name:<52}{:>14}  {seconds:>7.1} s", grouped(*count))?;
+        }
+        writeln!(to, "  {:<52}{:>14}", "in all", grouped(self.inputs()))?;
+        writeln!(to, "answers that agree\n{}", self.tally)?;
+        let (time, input) = &self.slowest;
+        let (millis, size) = (time.as_secs_f64() * 1000.0, input.size());
+        writeln!(
+            to,
+            "slowest input: {millis:.1} ms, {} bytes",
+            grouped(size as u64)
+        )?;
+        if self.cut {
+            writeln!(to, "cut short: the limit of time came before the end")?;
+        }
+        match &self.disagreement {
+            None => writeln!(to, "no disagreement"),
+            Some((input, found)) => write!(
+                to,
+                "DISAGREEMENT\n{found}smallest input found:\n{}",
+                shown(input)
+            ),
+        }
+    }
+}
+
+/// An input in hex, or its lengths where it is long.
+fn shown(input: &Input) -> String {
+    let part = |name: &str, bytes: &[u8]| match bytes.len() {
+        0..=4096 => format!("  {name} {}\n", hex(bytes)),
+        length => format!("  {name} {}... ({length} bytes)\n", hex(&bytes[..64])),
+    };
+    let mut text = part("dictionary", &input.dict);
+    if let Some(object) = &input.object {
+        text += &part("object    ", object);
+    }
+    if let Some(query) = &input.query {
+        text += &part("name      ", query);
+    }
+    text
+}

@@ -1,0 +1,99 @@
+//! What a run has seen, counted.
+
+use std::collections::BTreeMap;
+use std::fmt;
+
+/// Counts by kind.
+#[derive(Clone, Debug, Default)]
+pub struct Tally {
+    /// Dictionaries that both accept.
+    pub dictionaries: u64,
+    /// Dictionaries that both refuse, by our number.
+    pub dictionaries_refused: BTreeMap<u32, u64>,
+    /// Entries whose names agree.
+    pub names: u64,
+    /// Entry numbers past the count, which both refuse.
+    pub no_such_entry: u64,
+    /// Objects that both accept.
+    pub objects: u64,
+    /// Objects that we accept and the Rust refuses for a child.
+    pub child_refused: u64,
+    /// Of these, objects in which a child has no bytes.
+    pub child_empty: u64,
+    /// Objects that both refuse, by our number.
+    pub objects_refused: BTreeMap<u32, u64>,
+    /// Objects over a dictionary that is refused.
+    pub over_refused: u64,
+    /// Copies with other children whose verdicts agree.
+    pub traced: u64,
+    /// Fields whose ids, starts and spans agree.
+    pub fields: u64,
+    /// Lookups that found what `get` yields.
+    pub found: u64,
+    /// Lookups that are absent where `get` yields nothing.
+    pub absent: u64,
+    /// Lookups of bytes that are no text, which are absent and cannot be asked of the Rust.
+    pub not_text: u64,
+    /// Dictionaries and objects over the limit (10, 20), which the Rust takes.
+    pub over_limit: u64,
+    /// Values of another basic type (22), which the Rust's `VariantObject` does not look at.
+    pub other_type: u64,
+}
+
+impl Tally {
+    /// Counts a number of ours.
+    pub fn refuse(numbers: &mut BTreeMap<u32, u64>, number: u32) {
+        *numbers.entry(number).or_default() += 1;
+    }
+}
+
+/// A number with commas between thousands.
+pub fn grouped(number: u64) -> String {
+    let digits = number.to_string();
+    let mut text = String::new();
+    for (index, digit) in digits.chars().enumerate() {
+        if index > 0 && (digits.len() - index).is_multiple_of(3) {
+            text.push(',');
+        }
+        text.push(digit);
+    }
+    text
+}
+
+impl fmt::Display for Tally {
+    fn fmt(&self, to: &mut fmt::Formatter<'_>) -> fmt::Result {
+        let mut line = |what: &str, count: u64| writeln!(to, "  {what:<52}{:>14}", grouped(count));
+        line("dictionaries accepted by both", self.dictionaries)?;
+        for (number, count) in &self.dictionaries_refused {
+            line(&format!("dictionaries refused by both, {number}"), *count)?;
+        }
+        line("names by entry number", self.names)?;
+        line("entry numbers past the count, 31", self.no_such_entry)?;
+        line("objects accepted by both", self.objects)?;
+        line(
+            "objects accepted, a child refused by the Rust",
+            self.child_refused,
+        )?;
+        line("  of these, a child has no bytes", self.child_empty)?;
+        for (number, count) in &self.objects_refused {
+            line(&format!("objects refused by both, {number}"), *count)?;
+        }
+        line("objects over a refused dictionary", self.over_refused)?;
+        line("objects with other children, the layer alone", self.traced)?;
+        line("fields listed", self.fields)?;
+        line("lookups found", self.found)?;
+        line("lookups absent", self.absent)?;
+        line(
+            "lookups of no text, absent (not to be asked there)",
+            self.not_text,
+        )?;
+        line(
+            "outside the domain: over the limit, 10 and 20",
+            self.over_limit,
+        )?;
+        line(
+            "outside the domain: another basic type, 22",
+            self.other_type,
+        )
+    }
+}

@@ -1,0 +1,137 @@
+//! The comparison's own parts: enumeration, shrinking, positions, and copies that tell places.
+
+use differential::encode::{self, DictionaryShape, ObjectShape};
+use differential::exhaustive::each;
+use differential::original::{traced, traced_start};
+use differential::random::Random;
+use differential::reading::{DictionaryParts, ObjectParts};
+use differential::{Input, damage, fixed, generate, hex, shrink};
+use parquet_variant::{VariantMetadata, VariantObject};
+
+#[test]
+fn each_string_once_in_order() {
+    let mut seen = Vec::new();
+    each(3, b"xy", b"012", |bytes| -> Result<(), ()> {
+        seen.push(bytes.to_vec());
+        Ok(())
+    })
+    .unwrap();
+    assert_eq!(seen.len(), 2 * 3 * 3);
+    assert_eq!(seen[0], b"x00");
+    assert_eq!(seen[17], b"y22");
+    assert!(seen.is_sorted());
+    seen.dedup();
+    assert_eq!(seen.len(), 18);
+}
+
+#[test]
+fn the_empty_string_too() {
+    let mut count = 0;
+    each(0, b"x", b"y", |bytes| -> Result<(), ()> {
+        assert!(bytes.is_empty());
+        count += 1;
+        Ok(())
+    })
+    .unwrap();
+    assert_eq!(count, 1);
+}
+
+#[test]
+fn shrinks_to_what_matters() {
+    let input = Input {
+        dict: b"many bytes and a Z between".to_vec(),
+        object: Some(vec![9; 100]),
+        query: Some(vec![1, 2, 3]),
+    };
+    let has_z = |input: &Input| input.dict.contains(&b'Z') && input.object.is_some();
+    let small = shrink::smallest(input, has_z);
+    assert_eq!(small, Input::object(b"Z".to_vec(), vec![]));
+}
+
+#[test]
+fn positions_of_every_width() {
+    let names = [b"ab".to_vec(), b"".to_vec(), b"c".to_vec()];
+    for width in 1..=4 {
+        let shape = DictionaryShape {
+            width,
+            sorted: false,
+            spare: true,
+        };
+        let dict = encode::dictionary(&names, shape);
+        let parts = DictionaryParts::of(&dict).unwrap();
+        let offsets: Vec<_> = (0..4).map(|k| parts.offsets.number(&dict, k)).collect();
+        assert_eq!(offsets, [Some(0), Some(2), Some(2), Some(3)]);
+        assert_eq!(parts.region(&dict), Some(&b"abc"[..]));
+        assert_eq!(parts.region(&dict[..dict.len() - 1]), None);
+        let theirs = VariantMetadata::try_new(&dict).unwrap();
+        assert_eq!(theirs.iter().collect::<Vec<_>>(), ["ab", "", "c"]);
+    }
+}
+
+/// Objects of every header over a dictionary, with the children where the Rust reads them.
+#[test]
+fn traced_copies_of_every_shape() {
+    let metadata = VariantMetadata::try_new(fixed::SORTED).unwrap();
+    for header in 0..32 {
+        let shape = ObjectShape {
+            id_width: header % 4 + 1,
+            offset_width: header / 4 % 4 + 1,
+            long_count: header >= 16,
+            spare: header % 3 == 0,
+        };
+        // The children are of an unknown type, and one has no bytes: the Rust refuses both.
+        let object = encode::object(&[0, 1], &[1, 3, 3], &[0xFC; 3], shape);
+        assert!(VariantObject::try_new(metadata.clone(), &object).is_err());
+        let region = ObjectParts::of(&object).unwrap().offsets.end();
+        let copy = traced(&object).unwrap();
+        let theirs = VariantObject::try_new(metadata.clone(), &copy).unwrap();
+        let start = |name| traced_start(&theirs.get(name).unwrap(), &copy);
+        assert_eq!(start("flow"), Some(region + 1));
+        assert_eq!(start("roll"), Some(region + 3));
+    }
+}
+
+#[test]
+fn no_traced_copy_of_what_is_cut() {
+    assert_eq!(traced(&[]), None);
+    assert_eq!(traced(&[2]), None);
+    assert_eq!(traced(&fixed::OBJECT[..9]), None);
+    assert!(traced(fixed::OBJECT).is_some());
+}
+
+/// The generator keeps its word: most of its inputs are accepted, in every shape, and the same
+/// seed gives the same.
+#[test]
+fn good_inputs_of_every_shape() {
+    let mut random = Random::seeded(3);
+    let mut again = Random::seeded(3);
+    let mut headers = std::collections::BTreeSet::new();
+    let mut accepted = 0;
+    for _ in 0..6000 {
+        let input = generate::good(&mut random);
+        assert_eq!(input, generate::good(&mut again));
+        let object = input.object.unwrap();
+        let metadata = VariantMetadata::try_new(&input.dict).expect("a good dictionary");
+        headers.insert((input.dict[0] & 0xD0, object[0] & 0x7C));
+        accepted += usize::from(VariantObject::try_new(metadata, &object).is_ok());
+    }
+    assert_eq!(headers.len(), 4 * 2 * 4 * 4 * 2);
+    assert!(accepted > 3000, "{accepted}");
+}
+
+#[test]
+fn damage_damages() {
+    let mut random = Random::seeded(4);
+    let good = Input::object(fixed::SORTED.to_vec(), fixed::OBJECT.to_vec());
+    let copies: Vec<Input> = (0..100)
+        .map(|_| damage::damaged(&mut random, &good))
+        .collect();
+    let changed = copies.iter().filter(|&copy| *copy != good).count();
+    assert!(changed > 80, "{changed}");
+}
+
+#[test]
+fn bytes_in_hex() {
+    assert_eq!(hex(&[]), "-");
+    assert_eq!(hex(&[0, 0xAB]), "00AB");
+}

@@ -1,0 +1,266 @@
+//! Safe calls to Lichenhusk, a reader of the Variant binary encoding of Apache Parquet whose
+//! code is proved to meet its definitions.
+//!
+//! A Variant comes as two buffers: a dictionary of field names and a value. This crate checks a
+//! dictionary and one layer of an object, finds a field by its name and lists the fields. It
+//! does not look into the children: a child is handed back as bytes of the object.
+//!
+//! Each call checks what it is lent from the start, and keeps and copies nothing. Any bytes may
+//! be lent; what is wrong with them is a [`Refusal`] with a number and a place.
+//!
+//! ```
+//! // A sorted dictionary of "flow" and "roll", and an object that has both.
+//! let dict = b"\x11\x02\x00\x04\x08flowroll";
+//! let object = b"\x02\x02\x00\x01\x01\x00\x03\x04\x0C\xFB";
+//!
+//! let flow = lichenhusk::child(dict, object, b"flow")?;
+//! assert_eq!(flow, Some(&object[8..10]));
+//! assert_eq!(lichenhusk::child(dict, object, b"rol")?, None);
+//!
+//! for field in lichenhusk::list(dict, object)? {
+//!     let name = lichenhusk::name(dict, field.id as usize)?;
+//!     println!("{}: {} bytes at {}", String::from_utf8_lossy(name), field.span, field.start);
+//! }
+//! # Ok::<(), lichenhusk::Refusal>(())
+//! ```
+
+#![deny(unsafe_code)]
+#![warn(missing_docs)]
+
+#[allow(unsafe_code)]
+pub mod raw;
+mod refusal;
+mod strip;
+
+pub use refusal::Refusal;
+pub use strip::Strip;
+
+/// The most bytes that a dictionary, or an object, may have.
+pub const LIMIT: usize = 65_536;
+
+/// The bytes of a strip that an answer fills.
+pub const STRIP_BYTES: usize = 20;
+
+/// The words of a listing for each field.
+pub const WORDS_PER_FIELD: usize = 3;
+
+/// The code of what was accepted, found or written.
+pub const OK: u32 = 0;
+
+/// The code of a name that no field has.
+pub const ABSENT: u32 = 1;
+
+/// An accepted dictionary.
+#[derive(Clone, Copy, Debug, PartialEq, Eq, Hash)]
+pub struct Dictionary {
+    /// How many names it has.
+    pub entries: usize,
+    /// Where its own bytes end; what comes after is ignored.
+    pub end: usize,
+}
+
+/// An accepted layer of an object.
+#[derive(Clone, Copy, Debug, PartialEq, Eq, Hash)]
+pub struct Layer {
+    /// How many fields it has.
+    pub fields: usize,
+    /// Where the children's bytes begin.
+    pub region: usize,
+    /// Where the object's own bytes end; what comes after is ignored.
+    pub end: usize,
+}
+
+/// A field that a lookup found.
+#[derive(Clone, Copy, Debug, PartialEq, Eq, Hash)]
+pub struct Found {
+    /// Which field, counted from 0 in the object's order.
+    pub field: usize,
+    /// Where its child starts in the object.
+    pub start: usize,
+    /// Where the child ends: at the end of the object's own bytes, for every child.
+    pub end: usize,
+}
+
+/// A field as a listing has it.
+#[derive(Clone, Copy, Debug, PartialEq, Eq, Hash)]
+pub struct Field {
+    /// The entry of the dictionary that is its name.
+    pub id: u32,
+    /// Where its child starts in the object.
+    pub start: usize,
+    /// The bytes from there to the next larger offset; 0 where there is none.
+    pub span: usize,
+}
+
+/// Checks a dictionary.
+///
+/// ```
+/// use lichenhusk::{Dictionary, Refusal};
+///
+/// let two = b"\x11\x02\x00\x04\x08flowroll, and more";
+/// assert_eq!(lichenhusk::dictionary(two), Ok(Dictionary { entries: 2, end: 13 }));
+/// assert_eq!(lichenhusk::dictionary(&two[..12]), Err(Refusal::DictionaryShort));
+/// ```
+pub fn dictionary(dict: &[u8]) -> Result<Dictionary, Refusal> {
+    let strip = Strip::of(|strip| raw::dictionary(dict, strip)).accepted()?;
+    Ok(Dictionary {
+        entries: strip.number as usize,
+        end: strip.end as usize,
+    })
+}
+
+/// Checks a dictionary and finds the name of an entry, counted from 0. A name is UTF-8.
+///
+/// ```
+/// use lichenhusk::Refusal;
+///
+/// let dict = b"\x11\x02\x00\x04\x08flowroll";
+/// assert_eq!(lichenhusk::name(dict, 1), Ok(&b"roll"[..]));
+/// assert_eq!(lichenhusk::name(dict, 2), Err(Refusal::NoSuchEntry));
+/// ```
+pub fn name(dict: &[u8], entry: usize) -> Result<&[u8], Refusal> {
+    let strip = Strip::of(|strip| raw::name(dict, entry, strip)).accepted()?;
+    Ok(&dict[strip.start as usize..strip.end as usize])
+}
+
+/// Checks a dictionary and one layer of an object.
+///
+/// ```
+/// use lichenhusk::{Layer, Refusal};
+///
+/// let dict = b"\x11\x02\x00\x04\x08flowroll";
+/// let object = b"\x02\x02\x00\x01\x01\x00\x03\x04\x0C\xFB";
+/// let layer = Layer { fields: 2, region: 7, end: 10 };
+/// assert_eq!(lichenhusk::layer(dict, object), Ok(layer));
+/// assert_eq!(lichenhusk::layer(dict, &[0]), Err(Refusal::ObjectType));
+/// ```
+pub fn layer(dict: &[u8], object: &[u8]) -> Result<Layer, Refusal> {
+    let strip = Strip::of(|strip| raw::layer(dict, object, strip)).accepted()?;
+    Ok(layer_of(strip))
+}
+
+/// Checks a dictionary and one layer of an object, and looks for the field of a name.
+///
+/// The name is any bytes. Bytes that are not UTF-8 are no field's name.
+///
+/// ```
+/// use lichenhusk::Found;
+///
+/// let dict = b"\x11\x02\x00\x04\x08flowroll";
+/// let object = b"\x02\x02\x00\x01\x01\x00\x03\x04\x0C\xFB";
+/// let roll = Found { field: 1, start: 7, end: 10 };
+/// assert_eq!(lichenhusk::lookup(dict, object, b"roll"), Ok(Some(roll)));
+/// assert_eq!(lichenhusk::lookup(dict, object, b"rol"), Ok(None));
+/// ```
+pub fn lookup(dict: &[u8], object: &[u8], name: &[u8]) -> Result<Option<Found>, Refusal> {
+    let strip = Strip::of(|strip| raw::lookup(dict, object, name, strip)).accepted()?;
+    Ok((strip.code == OK).then_some(Found {
+        field: strip.number as usize,
+        start: strip.start as usize,
+        end: strip.end as usize,
+    }))
+}
+
+/// As [`lookup`], and hands back the child as a part of the object.
+///
+/// The part lives as long as the object; the dictionary and the name may go before.
+///
+/// ```
+/// let object = *b"\x02\x02\x00\x01\x01\x00\x03\x04\x0C\xFB";
+/// let flow = {
+///     let dict = b"\x11\x02\x00\x04\x08flowroll".to_vec();
+///     let name = String::from("flow");
+///     lichenhusk::child(&dict, &object, name.as_bytes())?
+/// };
+/// assert_eq!(flow, Some(&[0x0C, 0xFB][..]));
+/// # Ok::<(), lichenhusk::Refusal>(())
+/// ```
+pub fn child<'object>(
+    dict: &[u8],
+    object: &'object [u8],
+    name: &[u8],
+) -> Result<Option<&'object [u8]>, Refusal> {
+    let found = lookup(dict, object, name)?;
+    Ok(found.map(|found| &object[found.start..found.end]))
+}
+
+/// Checks a dictionary and one layer of an object, and lists the fields in their order.
+///
+/// This asks for the layer first, to know how many fields there are, and so checks twice; with
+/// [`list_into`] and room enough it is done once.
+///
+/// ```
+/// use lichenhusk::Field;
+///
+/// let dict = b"\x11\x02\x00\x04\x08flowroll";
+/// let object = b"\x02\x02\x00\x01\x01\x00\x03\x04\x0C\xFB";
+/// let flow = Field { id: 0, start: 8, span: 2 };
+/// let roll = Field { id: 1, start: 7, span: 1 };
+/// assert_eq!(lichenhusk::list(dict, object), Ok(vec![flow, roll]));
+/// ```
+pub fn list(dict: &[u8], object: &[u8]) -> Result<Vec<Field>, Refusal> {
+    let fields = layer(dict, object)?.fields;
+    let mut words = vec![0; WORDS_PER_FIELD * fields];
+    list_into(dict, object, &mut words)?;
+    Ok(fields_of(&words).collect())
+}
+
+/// Checks a dictionary and one layer of an object, and writes three words a field into room that
+/// is lent: id, start, span. Words after these stay as they are, and a refusal leaves them all.
+///
+/// ```
+/// use lichenhusk::Refusal;
+///
+/// let dict = b"\x11\x02\x00\x04\x08flowroll";
+/// let object = b"\x02\x02\x00\x01\x01\x00\x03\x04\x0C\xFB";
+/// let mut words = [9; 7];
+/// let layer = lichenhusk::list_into(dict, object, &mut words)?;
+/// assert_eq!(words, [0, 8, 2, 1, 7, 1, 9]);
+///
+/// let listed = &words[..lichenhusk::WORDS_PER_FIELD * layer.fields];
+/// assert_eq!(lichenhusk::fields_of(listed).last().unwrap().id, 1);
+///
+/// let little = &mut [9; 5];
+/// assert_eq!(lichenhusk::list_into(dict, object, little), Err(Refusal::WordsTooFew));
+/// assert_eq!(little, &[9; 5]);
+/// # Ok::<(), Refusal>(())
+/// ```
+pub fn list_into(dict: &[u8], object: &[u8], words: &mut [u32]) -> Result<Layer, Refusal> {
+    let strip = Strip::of(|strip| raw::list(dict, object, words, strip)).accepted()?;
+    Ok(layer_of(strip))
+}
+
+/// The fields of the words that [`list_into`] wrote. A cut last field is left out.
+pub fn fields_of(words: &[u32]) -> impl Iterator<Item = Field> {
+    words.chunks_exact(WORDS_PER_FIELD).map(|field| Field {
+        id: field[0],
+        start: field[1] as usize,
+        span: field[2] as usize,
+    })
+}
+
+/// Writes the empty dictionary, the bytes 01 00 00, to the first three bytes of room; bytes
+/// after them stay as they are.
+///
+/// ```
+/// use lichenhusk::Refusal;
+///
+/// let mut room = [9; 4];
+/// assert_eq!(lichenhusk::empty(&mut room), Ok(()));
+/// assert_eq!(room, [1, 0, 0, 9]);
+/// assert_eq!(lichenhusk::empty(&mut room[..2]), Err(Refusal::RoomTooSmall));
+/// ```
+pub fn empty(room: &mut [u8]) -> Result<(), Refusal> {
+    match raw::empty(room) {
+        OK => Ok(()),
+        number => Err(Refusal::known(number, 0)),
+    }
+}
+
+fn layer_of(strip: Strip) -> Layer {
+    Layer {
+        fields: strip.number as usize,
+        region: strip.start as usize,
+        end: strip.end as usize,
+    }
+}

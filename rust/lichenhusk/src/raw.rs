@@ -1,0 +1,139 @@
+//! The functions of the archive as they are, on lent slices: codes and strips, no types.
+//!
+//! For a caller that keeps its own strips, and for seeing a code as it is given. The rest of
+//! this crate is made of these.
+//!
+//! This module has all of the crate's `unsafe`, one call in each function. The same reasons
+//! hold for each:
+//!
+//! - Each pointer comes from a slice with its length, so it is not null, is aligned, and is
+//!   good for as many bytes or words as the length says.
+//! - What is written is lent as `&mut`, so no other buffer of the call shares memory with it.
+//! - The functions are proved to take any bytes, to reach for nothing outside of the buffers,
+//!   to write only what is lent as `&mut`, to keep no pointer and to return.
+//! - The declarations below are those of `include/lichenhusk.h`.
+
+unsafe extern "C" {
+    fn lichenhusk_lookup(
+        dict: *const u8,
+        dict_len: usize,
+        object: *const u8,
+        object_len: usize,
+        name: *const u8,
+        name_len: usize,
+        strip: *mut u8,
+        strip_len: usize,
+    ) -> u32;
+
+    fn lichenhusk_dictionary(
+        dict: *const u8,
+        dict_len: usize,
+        strip: *mut u8,
+        strip_len: usize,
+    ) -> u32;
+
+    fn lichenhusk_name(
+        dict: *const u8,
+        dict_len: usize,
+        entry: usize,
+        strip: *mut u8,
+        strip_len: usize,
+    ) -> u32;
+
+    fn lichenhusk_layer(
+        dict: *const u8,
+        dict_len: usize,
+        object: *const u8,
+        object_len: usize,
+        strip: *mut u8,
+        strip_len: usize,
+    ) -> u32;
+
+    fn lichenhusk_list(
+        dict: *const u8,
+        dict_len: usize,
+        object: *const u8,
+        object_len: usize,
+        words: *mut u32,
+        words_len: usize,
+        strip: *mut u8,
+        strip_len: usize,
+    ) -> u32;
+
+    fn lichenhusk_empty(room: *mut u8, room_len: usize) -> u32;
+}
+
+/// Looks for the field of a name; the strip holds field, start and end.
+pub fn lookup(dict: &[u8], object: &[u8], name: &[u8], strip: &mut [u8]) -> u32 {
+    // SAFETY: as the head of this module says.
+    unsafe {
+        lichenhusk_lookup(
+            dict.as_ptr(),
+            dict.len(),
+            object.as_ptr(),
+            object.len(),
+            name.as_ptr(),
+            name.len(),
+            strip.as_mut_ptr(),
+            strip.len(),
+        )
+    }
+}
+
+/// Checks a dictionary; the strip holds entry count, 0 and trimmed end.
+pub fn dictionary(dict: &[u8], strip: &mut [u8]) -> u32 {
+    // SAFETY: as the head of this module says.
+    unsafe { lichenhusk_dictionary(dict.as_ptr(), dict.len(), strip.as_mut_ptr(), strip.len()) }
+}
+
+/// Finds the name of an entry; the strip holds 0, start and end.
+pub fn name(dict: &[u8], entry: usize, strip: &mut [u8]) -> u32 {
+    // SAFETY: as the head of this module says.
+    unsafe {
+        lichenhusk_name(
+            dict.as_ptr(),
+            dict.len(),
+            entry,
+            strip.as_mut_ptr(),
+            strip.len(),
+        )
+    }
+}
+
+/// Checks one layer; the strip holds field count, region start and trimmed end.
+pub fn layer(dict: &[u8], object: &[u8], strip: &mut [u8]) -> u32 {
+    // SAFETY: as the head of this module says.
+    unsafe {
+        lichenhusk_layer(
+            dict.as_ptr(),
+            dict.len(),
+            object.as_ptr(),
+            object.len(),
+            strip.as_mut_ptr(),
+            strip.len(),
+        )
+    }
+}
+
+/// Lists the fields, three words each; the strip is the layer's.
+pub fn list(dict: &[u8], object: &[u8], words: &mut [u32], strip: &mut [u8]) -> u32 {
+    // SAFETY: as the head of this module says.
+    unsafe {
+        lichenhusk_list(
+            dict.as_ptr(),
+            dict.len(),
+            object.as_ptr(),
+            object.len(),
+            words.as_mut_ptr(),
+            words.len(),
+            strip.as_mut_ptr(),
+            strip.len(),
+        )
+    }
+}
+
+/// Writes the empty dictionary to the first three bytes of a room.
+pub fn empty(room: &mut [u8]) -> u32 {
+    // SAFETY: as the head of this module says.
+    unsafe { lichenhusk_empty(room.as_mut_ptr(), room.len()) }
+}

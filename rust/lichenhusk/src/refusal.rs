@@ -1,0 +1,238 @@
+//! Why bytes were refused.
+
+use std::error::Error;
+use std::fmt;
+
+/// A refusal, with its place where it has one.
+///
+/// Of several reasons to refuse, the one given is the first in the order in which bytes are
+/// checked: the dictionary before the object, a header before what it describes, and then entry
+/// by entry and field by field.
+///
+/// ```
+/// let refusal = lichenhusk::dictionary(&[1, 1, 0, 1, 0xFF]).unwrap_err();
+/// assert_eq!((refusal.number(), refusal.place()), (16, 0));
+/// assert_eq!(
+///     refusal.to_string(),
+///     "refused 16 at 0: the dictionary's names are not UTF-8 after their first 0 bytes"
+/// );
+/// ```
+#[derive(Clone, Copy, Debug, PartialEq, Eq, Hash)]
+pub enum Refusal {
+    /// 10: the dictionary is longer than [`LIMIT`](crate::LIMIT).
+    DictionaryTooLong,
+    /// 11: the dictionary has no bytes.
+    DictionaryEmpty,
+    /// 12: the dictionary's version is not 1.
+    DictionaryVersion,
+    /// 13: the dictionary ends before its count, its offsets or its names do.
+    DictionaryShort,
+    /// 14: the dictionary's count or last offset asks for a place above 4,294,967,295.
+    DictionaryOverflow,
+    /// 15: the dictionary's first offset is not 0.
+    DictionaryFirstOffset,
+    /// 16: the dictionary's names are not UTF-8.
+    DictionaryNotUtf8 {
+        /// How many bytes, from the first name's first byte, are well formed.
+        prefix: u32,
+    },
+    /// 17: an entry's offsets fall, pass the names' end or cut a character.
+    DictionaryEntry {
+        /// The first such entry.
+        entry: u32,
+    },
+    /// 18: the dictionary says that it is sorted, and an entry is not above the one before.
+    DictionaryOrder {
+        /// The first such entry.
+        entry: u32,
+    },
+    /// 20: the object is longer than [`LIMIT`](crate::LIMIT).
+    ObjectTooLong,
+    /// 21: the object has no bytes.
+    ObjectEmpty,
+    /// 22: the value is not an object.
+    ObjectType,
+    /// 23: the object ends before its count, its ids, its offsets or its children do.
+    ObjectShort,
+    /// 24: the object's count or last offset asks for a place above 4,294,967,295.
+    ObjectOverflow,
+    /// 25: a field's id names no entry of the dictionary.
+    ObjectId {
+        /// The first such field.
+        field: u32,
+    },
+    /// 26: a field's name is not above the name of the field before.
+    ObjectOrder {
+        /// The first such field.
+        field: u32,
+    },
+    /// 27: a field's offset is above the length of the children's bytes.
+    ObjectOffset {
+        /// The first such field.
+        field: u32,
+    },
+    /// 31: the dictionary has no entry of that number.
+    NoSuchEntry,
+    /// 40: the strip is shorter than [`STRIP_BYTES`](crate::STRIP_BYTES).
+    StripTooShort,
+    /// 41: there are fewer than three words of room for each field.
+    WordsTooFew,
+    /// 42: there are fewer than three bytes of room for the empty dictionary.
+    RoomTooSmall,
+}
+
+use Refusal::*;
+
+impl Refusal {
+    /// The refusal of a number and a place, as a strip holds them; nothing for a number that is
+    /// no refusal. The place counts only for a refusal that has one.
+    ///
+    /// ```
+    /// use lichenhusk::Refusal;
+    ///
+    /// assert_eq!(Refusal::of(25, 3), Some(Refusal::ObjectId { field: 3 }));
+    /// assert_eq!(Refusal::of(1, 0), None);
+    /// ```
+    pub fn of(number: u32, place: u32) -> Option<Refusal> {
+        Some(match number {
+            10 => DictionaryTooLong,
+            11 => DictionaryEmpty,
+            12 => DictionaryVersion,
+            13 => DictionaryShort,
+            14 => DictionaryOverflow,
+            15 => DictionaryFirstOffset,
+            16 => DictionaryNotUtf8 { prefix: place },
+            17 => DictionaryEntry { entry: place },
+            18 => DictionaryOrder { entry: place },
+            20 => ObjectTooLong,
+            21 => ObjectEmpty,
+            22 => ObjectType,
+            23 => ObjectShort,
+            24 => ObjectOverflow,
+            25 => ObjectId { field: place },
+            26 => ObjectOrder { field: place },
+            27 => ObjectOffset { field: place },
+            31 => NoSuchEntry,
+            40 => StripTooShort,
+            41 => WordsTooFew,
+            42 => RoomTooSmall,
+            _ => return None,
+        })
+    }
+
+    /// The refusal of a number that the archive gave.
+    ///
+    /// # Panics
+    ///
+    /// On a number that this crate does not know, which only an archive of another version of
+    /// the project can give.
+    pub(crate) fn known(number: u32, place: u32) -> Refusal {
+        Refusal::of(number, place).unwrap_or_else(|| {
+            panic!("the archive answers {number}: it is not of this crate's version")
+        })
+    }
+
+    /// The number, as the strip's first word has it.
+    pub fn number(self) -> u32 {
+        match self {
+            DictionaryTooLong => 10,
+            DictionaryEmpty => 11,
+            DictionaryVersion => 12,
+            DictionaryShort => 13,
+            DictionaryOverflow => 14,
+            DictionaryFirstOffset => 15,
+            DictionaryNotUtf8 { .. } => 16,
+            DictionaryEntry { .. } => 17,
+            DictionaryOrder { .. } => 18,
+            ObjectTooLong => 20,
+            ObjectEmpty => 21,
+            ObjectType => 22,
+            ObjectShort => 23,
+            ObjectOverflow => 24,
+            ObjectId { .. } => 25,
+            ObjectOrder { .. } => 26,
+            ObjectOffset { .. } => 27,
+            NoSuchEntry => 31,
+            StripTooShort => 40,
+            WordsTooFew => 41,
+            RoomTooSmall => 42,
+        }
+    }
+
+    /// The place, as the strip's last word has it: 0 for a refusal that has none.
+    pub fn place(self) -> u32 {
+        match self {
+            DictionaryNotUtf8 { prefix } => prefix,
+            DictionaryEntry { entry } | DictionaryOrder { entry } => entry,
+            ObjectId { field } | ObjectOrder { field } | ObjectOffset { field } => field,
+            _ => 0,
+        }
+    }
+}
+
+impl fmt::Display for Refusal {
+    fn fmt(&self, to: &mut fmt::Formatter<'_>) -> fmt::Result {
+        write!(to, "refused {} at {}: ", self.number(), self.place())?;
+        match self {
+            DictionaryTooLong => write!(to, "the dictionary is longer than 65536 bytes"),
+            DictionaryEmpty => write!(to, "the dictionary has no bytes"),
+            DictionaryVersion => write!(to, "the dictionary's version is not 1"),
+            DictionaryShort => write!(
+                to,
+                "the dictionary ends before its count, its offsets or its names do"
+            ),
+            DictionaryOverflow => write!(
+                to,
+                "the dictionary's count or last offset asks for a place above 4294967295"
+            ),
+            DictionaryFirstOffset => write!(to, "the dictionary's first offset is not 0"),
+            DictionaryNotUtf8 { prefix } => write!(
+                to,
+                "the dictionary's names are not UTF-8 after their first {prefix} bytes"
+            ),
+            DictionaryEntry { entry } => write!(
+                to,
+                "the offsets of the dictionary's entry {entry} fall, pass the names' end or cut a character"
+            ),
+            DictionaryOrder { entry } => write!(
+                to,
+                "the dictionary says that it is sorted, and its entry {entry} is not above the one before"
+            ),
+            ObjectTooLong => write!(to, "the object is longer than 65536 bytes"),
+            ObjectEmpty => write!(to, "the object has no bytes"),
+            ObjectType => write!(to, "the value is not an object: its basic type is not 2"),
+            ObjectShort => write!(
+                to,
+                "the object ends before its count, its ids, its offsets or its children do"
+            ),
+            ObjectOverflow => write!(
+                to,
+                "the object's count or last offset asks for a place above 4294967295"
+            ),
+            ObjectId { field } => write!(
+                to,
+                "the id of the object's field {field} names no entry of the dictionary"
+            ),
+            ObjectOrder { field } => write!(
+                to,
+                "the name of the object's field {field} is not above that of the field before"
+            ),
+            ObjectOffset { field } => write!(
+                to,
+                "the offset of the object's field {field} is above the length of the children's bytes"
+            ),
+            NoSuchEntry => write!(to, "the dictionary has no entry of that number"),
+            StripTooShort => write!(to, "the strip is shorter than 20 bytes"),
+            WordsTooFew => write!(
+                to,
+                "there are fewer than three words of room for each field"
+            ),
+            RoomTooSmall => write!(
+                to,
+                "there are fewer than 3 bytes of room for the empty dictionary"
+            ),
+        }
+    }
+}
+
+impl Error for Refusal {}

@@ -1,0 +1,65 @@
+//! The five words of an answer.
+
+use crate::{ABSENT, OK, Refusal, STRIP_BYTES};
+
+/// An answer as it stands in a strip: five numbers.
+///
+/// ```
+/// use lichenhusk::{Strip, raw};
+///
+/// let mut bytes = [0; lichenhusk::STRIP_BYTES];
+/// assert_eq!(raw::dictionary(&[1, 0, 0], &mut bytes), 0);
+/// let strip = Strip::read(&bytes);
+/// assert_eq!((strip.code, strip.number, strip.end), (0, 0, 3));
+/// ```
+#[derive(Clone, Copy, Debug, PartialEq, Eq, Hash)]
+pub struct Strip {
+    /// What was answered: 0, 1 or the number of a refusal.
+    pub code: u32,
+    /// An entry count, a field count or a field, by the function that was asked.
+    pub number: u32,
+    /// Where what was found starts.
+    pub start: u32,
+    /// Where it ends.
+    pub end: u32,
+    /// The place of a refusal.
+    pub place: u32,
+}
+
+impl Strip {
+    /// Reads the words of a strip's bytes, each with its lowest byte first.
+    pub fn read(bytes: &[u8; STRIP_BYTES]) -> Strip {
+        let word = |k: usize| {
+            u32::from_le_bytes([
+                bytes[4 * k],
+                bytes[4 * k + 1],
+                bytes[4 * k + 2],
+                bytes[4 * k + 3],
+            ])
+        };
+        Strip {
+            code: word(0),
+            number: word(1),
+            start: word(2),
+            end: word(3),
+            place: word(4),
+        }
+    }
+
+    /// Has a function fill a strip, and reads it.
+    pub(crate) fn of(fill: impl FnOnce(&mut [u8]) -> u32) -> Strip {
+        let mut bytes = [0; STRIP_BYTES];
+        let code = fill(&mut bytes);
+        let strip = Strip::read(&bytes);
+        debug_assert_eq!(strip.code, code, "the code returned is the code written");
+        strip
+    }
+
+    /// The refusal that the strip holds, if it holds one.
+    pub(crate) fn accepted(self) -> Result<Strip, Refusal> {
+        match self.code {
+            OK | ABSENT => Ok(self),
+            number => Err(Refusal::known(number, self.place)),
+        }
+    }
+}

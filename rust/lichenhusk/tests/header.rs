@@ -1,0 +1,123 @@
+//! The C header says what this crate says: the same numbers, and an example that runs.
+
+use lichenhusk::{ABSENT, LIMIT, OK, Refusal, STRIP_BYTES, WORDS_PER_FIELD};
+use std::collections::BTreeMap;
+use std::fs;
+use std::path::{Path, PathBuf};
+use std::process::Command;
+
+fn include() -> PathBuf {
+    Path::new(env!("CARGO_MANIFEST_DIR")).join("../../include")
+}
+
+fn header() -> String {
+    fs::read_to_string(include().join("lichenhusk.h")).expect("the repository has the header")
+}
+
+/// The lines `LICHENHUSK_NAME = number` of the header.
+fn constants() -> BTreeMap<String, u32> {
+    header()
+        .lines()
+        .filter_map(|line| line.trim().trim_end_matches(',').split_once(" = "))
+        .filter(|(name, _)| name.starts_with("LICHENHUSK_"))
+        .map(|(name, number)| (name.to_string(), number.parse().expect("a number")))
+        .collect()
+}
+
+/// The name that a case of [`Refusal`] has in C: its own in capitals, with lines between words.
+fn constant_of(refusal: Refusal) -> String {
+    let case = format!("{refusal:?}");
+    let case = case.split(' ').next().expect("a name");
+    let mut name = String::from("LICHENHUSK");
+    for letter in case.chars() {
+        if letter.is_ascii_uppercase() {
+            name.push('_');
+        }
+        name.push(letter.to_ascii_uppercase());
+    }
+    name
+}
+
+#[test]
+fn every_number_is_there() {
+    let constants = constants();
+    let mut known = BTreeMap::from([
+        ("LICHENHUSK_OK".to_string(), OK),
+        ("LICHENHUSK_ABSENT".to_string(), ABSENT),
+        ("LICHENHUSK_LIMIT".to_string(), LIMIT as u32),
+        ("LICHENHUSK_STRIP_BYTES".to_string(), STRIP_BYTES as u32),
+        (
+            "LICHENHUSK_WORDS_PER_FIELD".to_string(),
+            WORDS_PER_FIELD as u32,
+        ),
+        ("LICHENHUSK_EMPTY_BYTES".to_string(), 3),
+    ]);
+    let words = ["CODE", "NUMBER", "START", "END", "PLACE"];
+    for (index, word) in words.into_iter().enumerate() {
+        known.insert(format!("LICHENHUSK_{word}"), index as u32);
+    }
+    for refusal in (0..100).filter_map(|number| Refusal::of(number, 0)) {
+        known.insert(constant_of(refusal), refusal.number());
+    }
+    assert_eq!(constants, known);
+}
+
+/// The program that stands in the header's first comment.
+fn example() -> String {
+    let header = header();
+    let lines = header
+        .lines()
+        .skip_while(|line| !line.contains("AN EXAMPLE"));
+    let code: Vec<&str> = lines
+        .skip_while(|line| !line.contains("#include"))
+        .take_while(|line| !line.contains("It prints"))
+        .map(|line| line.trim_start_matches(" *"))
+        .collect();
+    code.join("\n")
+}
+
+fn compile(compiler: &str, language: &str, source: &Path, more: &[&str]) {
+    let mut command = Command::new(compiler);
+    command.args(["-Wall", "-Wextra", "-pedantic", "-Werror", "-x", language]);
+    command.arg("-I").arg(include()).arg(source).args(more);
+    let output = command.output().expect("a compiler");
+    let said = String::from_utf8_lossy(&output.stderr);
+    assert!(output.status.success(), "{compiler}: {said}");
+}
+
+fn is_there(compiler: &str) -> bool {
+    Command::new(compiler).arg("--version").output().is_ok()
+}
+
+/// A folder of this test's own, for what a compiler writes.
+fn folder() -> PathBuf {
+    let folder = Path::new(env!("CARGO_TARGET_TMPDIR")).join("header");
+    fs::create_dir_all(&folder).expect("a folder for the example");
+    folder
+}
+
+#[test]
+fn the_example_compiles_as_c_and_as_cpp() {
+    let source = folder().join("syntax.c");
+    fs::write(&source, example()).expect("room for the example");
+    compile("cc", "c", &source, &["-std=c99", "-fsyntax-only"]);
+    if is_there("c++") {
+        compile("c++", "c++", &source, &["-std=c++11", "-fsyntax-only"]);
+    } else {
+        println!("skipped for C++: there is no c++ here");
+    }
+}
+
+#[test]
+fn the_example_runs() {
+    let source = folder().join("example.c");
+    let program = folder().join("example");
+    fs::write(&source, example()).expect("room for the example");
+    let archive = env!("LICHENHUSK_LINKED_ARCHIVE");
+    let program_text = program.to_str().expect("a plain path");
+    let options = ["-std=c99", "-x", "none", archive, "-o", program_text];
+    compile("cc", "c", &source, &options);
+    let output = Command::new(&program).output().expect("the example runs");
+    assert!(output.status.success());
+    assert_eq!(output.stdout, b"field 0, bytes 8 to 10\n");
+}

@@ -1,0 +1,168 @@
+//! What is written to lent memory, and what stays, by the raw calls.
+
+mod common;
+
+use common::{D, P, hex};
+use lichenhusk::{STRIP_BYTES, Strip, raw};
+
+/// What a strip holds before a call, so that a byte that was not written shows.
+const BEFORE: u8 = 0xEE;
+
+/// A call that fills a strip, and its name for messages.
+type Call = (&'static str, fn(&mut [u8]) -> u32);
+
+/// Each call that fills a strip, on bytes that are accepted.
+fn calls() -> [Call; 5] {
+    [
+        ("lookup", |strip| {
+            raw::lookup(&hex(D), &hex(P), b"roll", strip)
+        }),
+        ("dictionary", |strip| raw::dictionary(&hex(D), strip)),
+        ("name", |strip| raw::name(&hex(D), 1, strip)),
+        ("layer", |strip| raw::layer(&hex(D), &hex(P), strip)),
+        ("list", |strip| {
+            raw::list(&hex(D), &hex(P), &mut [0; 6], strip)
+        }),
+    ]
+}
+
+/// Each call that fills a strip, on bytes that are refused.
+fn refused_calls() -> [Call; 5] {
+    [
+        ("lookup", |strip| raw::lookup(&[2], &hex(P), b"roll", strip)),
+        ("dictionary", |strip| raw::dictionary(&[2], strip)),
+        ("name", |strip| raw::name(&[2], 1, strip)),
+        ("layer", |strip| raw::layer(&[2], &hex(P), strip)),
+        ("list", |strip| raw::list(&[2], &hex(P), &mut [0; 6], strip)),
+    ]
+}
+
+#[test]
+fn a_short_strip_is_refused_first_and_left() {
+    for (name, call) in calls().into_iter().chain(refused_calls()) {
+        for length in 0..STRIP_BYTES {
+            let mut strip = vec![BEFORE; length];
+            assert_eq!(call(&mut strip), 40, "{name}");
+            assert_eq!(strip, vec![BEFORE; length], "{name}");
+        }
+    }
+}
+
+#[test]
+fn a_short_strip_leaves_the_words() {
+    let mut words = [7; 6];
+    assert_eq!(raw::list(&hex(D), &hex(P), &mut words, &mut [0; 19]), 40);
+    assert_eq!(words, [7; 6]);
+}
+
+#[test]
+fn bytes_after_the_strip_stay() {
+    for (name, call) in calls().into_iter().chain(refused_calls()) {
+        for length in [20, 21, 24, 40] {
+            let mut strip = vec![BEFORE; length];
+            let code = call(&mut strip);
+            assert_eq!(strip[..4], code.to_le_bytes(), "{name}");
+            assert!(
+                strip[STRIP_BYTES..].iter().all(|&byte| byte == BEFORE),
+                "{name}"
+            );
+        }
+    }
+}
+
+/// The five words of a call's answer, from a strip that held something else.
+fn words_of(call: fn(&mut [u8]) -> u32) -> [u32; 5] {
+    let mut bytes = [BEFORE; STRIP_BYTES];
+    let code = call(&mut bytes);
+    let strip = Strip::read(&bytes);
+    assert_eq!(strip.code, code);
+    [
+        strip.code,
+        strip.number,
+        strip.start,
+        strip.end,
+        strip.place,
+    ]
+}
+
+#[test]
+fn every_word_of_each_answer() {
+    let answers = [
+        [0, 1, 7, 10, 0],
+        [0, 2, 0, 13, 0],
+        [0, 0, 9, 13, 0],
+        [0, 2, 7, 10, 0],
+        [0, 2, 7, 10, 0],
+    ];
+    for ((name, call), answer) in calls().into_iter().zip(answers) {
+        assert_eq!(words_of(call), answer, "{name}");
+    }
+    for (name, call) in refused_calls() {
+        assert_eq!(words_of(call), [12, 0, 0, 0, 0], "{name}");
+    }
+}
+
+#[test]
+fn every_word_of_absence_and_of_a_placed_refusal() {
+    assert_eq!(
+        words_of(|strip| raw::lookup(&hex(D), &hex(P), b"rol", strip)),
+        [1, 0, 0, 0, 0]
+    );
+    assert_eq!(
+        words_of(|strip| raw::lookup(&hex(D), &hex("02 02 01 00 00 00 00"), b"flow", strip)),
+        [26, 0, 0, 0, 1]
+    );
+    assert_eq!(
+        words_of(|strip| raw::name(&hex(D), 2, strip)),
+        [31, 0, 0, 0, 0]
+    );
+    assert_eq!(
+        words_of(|strip| raw::list(&hex(D), &hex(P), &mut [0; 5], strip)),
+        [41, 0, 0, 0, 0]
+    );
+}
+
+#[test]
+fn words_after_the_listing_stay() {
+    let mut words = [7; 9];
+    let mut strip = [0; STRIP_BYTES];
+    assert_eq!(raw::list(&hex(D), &hex(P), &mut words, &mut strip), 0);
+    assert_eq!(words, [0, 8, 2, 1, 7, 1, 7, 7, 7]);
+}
+
+#[test]
+fn the_empty_dictionary() {
+    for length in 3..6 {
+        let mut room = vec![BEFORE; length];
+        assert_eq!(raw::empty(&mut room), 0);
+        assert_eq!(room[..3], [1, 0, 0]);
+        assert!(room[3..].iter().all(|&byte| byte == BEFORE));
+        let dictionary = lichenhusk::dictionary(&room).unwrap();
+        assert_eq!((dictionary.entries, dictionary.end), (0, 3));
+    }
+}
+
+/// Empty slices of every kind: Rust's pointers to them are not null, and the calls take them.
+#[test]
+fn empty_slices() {
+    let mut strip = [0; STRIP_BYTES];
+    assert_eq!(raw::lookup(&[], &[], &[], &mut strip), 11);
+    assert_eq!(raw::layer(&hex(D), &[], &mut strip), 21);
+    assert_eq!(raw::lookup(&hex(D), &hex(P), &[], &mut strip), 1);
+    assert_eq!(raw::list(&hex(D), &hex("02 00 00"), &mut [], &mut strip), 0);
+    assert_eq!(raw::dictionary(&[], &mut []), 40);
+    assert_eq!(raw::empty(&mut []), 42);
+}
+
+/// A query of any bytes is a query, and finds an empty name too.
+#[test]
+fn queries_of_any_bytes() {
+    let dict = hex("11 02 00 00 01 61");
+    let object = hex("02 02 00 01 00 01 02 00 00");
+    let field = |name: &[u8]| lichenhusk::lookup(&dict, &object, name).map(|f| f.map(|f| f.field));
+    assert_eq!(field(b""), Ok(Some(0)));
+    assert_eq!(field(b"a"), Ok(Some(1)));
+    assert_eq!(field(b"a\0"), Ok(None));
+    assert_eq!(field(b"\xFF"), Ok(None));
+    assert_eq!(field(&[b'a'; 70_000]), Ok(None));
+}

@@ -1,0 +1,215 @@
+//! Document 01's worked cases, all of them, in its order.
+
+mod common;
+
+use common::{D, P, hex, padded};
+use lichenhusk::{Dictionary, Field, Found, LIMIT, Layer, Refusal, STRIP_BYTES, raw};
+
+fn dictionary(text: &str) -> Result<Dictionary, Refusal> {
+    lichenhusk::dictionary(&hex(text))
+}
+
+fn accepted(entries: usize, end: usize) -> Result<Dictionary, Refusal> {
+    Ok(Dictionary { entries, end })
+}
+
+fn layer(object: &str) -> Result<Layer, Refusal> {
+    lichenhusk::layer(&hex(D), &hex(object))
+}
+
+fn lookup(object: &str, name: &str) -> Result<Option<Found>, Refusal> {
+    lichenhusk::lookup(&hex(D), &hex(object), name.as_bytes())
+}
+
+fn found(field: usize, start: usize, end: usize) -> Result<Option<Found>, Refusal> {
+    Ok(Some(Found { field, start, end }))
+}
+
+#[test]
+fn dictionaries_without_names() {
+    assert_eq!(dictionary("01 00 00"), accepted(0, 3));
+    assert_eq!(dictionary("01 00"), Err(Refusal::DictionaryShort));
+    assert_eq!(dictionary("02 00 00"), Err(Refusal::DictionaryVersion));
+}
+
+#[test]
+fn dictionaries_of_huge_counts() {
+    assert_eq!(dictionary("C1 FD FF FF 3F"), Err(Refusal::DictionaryShort));
+    assert_eq!(
+        dictionary("C1 FE FF FF 3F"),
+        Err(Refusal::DictionaryOverflow)
+    );
+}
+
+#[test]
+fn dictionaries_of_bad_names() {
+    assert_eq!(dictionary("01 00 01"), Err(Refusal::DictionaryFirstOffset));
+    assert_eq!(
+        dictionary("01 01 00 01 FF"),
+        Err(Refusal::DictionaryNotUtf8 { prefix: 0 })
+    );
+    assert_eq!(
+        dictionary("01 02 00 01 02 C3 A9"),
+        Err(Refusal::DictionaryEntry { entry: 0 })
+    );
+    assert_eq!(
+        dictionary("01 03 00 02 01 02 61 62"),
+        Err(Refusal::DictionaryEntry { entry: 1 })
+    );
+}
+
+#[test]
+fn dictionaries_sorted_and_not() {
+    assert_eq!(
+        dictionary("11 02 00 01 02 61 61"),
+        Err(Refusal::DictionaryOrder { entry: 1 })
+    );
+    assert_eq!(dictionary("01 02 00 01 02 61 61"), accepted(2, 7));
+    assert_eq!(dictionary("11 02 00 00 01 61"), accepted(2, 6));
+    let names = hex("11 02 00 00 01 61");
+    assert_eq!(lichenhusk::name(&names, 0), Ok(&b""[..]));
+    assert_eq!(lichenhusk::name(&names, 1), Ok(&b"a"[..]));
+}
+
+#[test]
+fn the_names_of_d() {
+    let dict = hex(D);
+    assert_eq!(lichenhusk::dictionary(&dict), accepted(2, 13));
+    assert_eq!(lichenhusk::name(&dict, 0), Ok(&b"flow"[..]));
+    assert_eq!(lichenhusk::name(&dict, 1), Ok(&b"roll"[..]));
+}
+
+#[test]
+fn the_fields_of_p() {
+    assert_eq!(
+        layer(P),
+        Ok(Layer {
+            fields: 2,
+            region: 7,
+            end: 10
+        })
+    );
+    assert_eq!(lookup(P, "flow"), found(0, 8, 10));
+    assert_eq!(lookup(P, "roll"), found(1, 7, 10));
+    assert_eq!(lookup(P, "rol"), Ok(None));
+}
+
+#[test]
+fn the_children_of_p() {
+    let (dict, object) = (hex(D), hex(P));
+    let child = |name: &[u8]| lichenhusk::child(&dict, &object, name);
+    assert_eq!(child(b"flow"), Ok(Some(&object[8..10])));
+    assert_eq!(child(b"roll"), Ok(Some(&object[7..10])));
+    assert_eq!(child(b"rol"), Ok(None));
+}
+
+#[test]
+fn the_listing_of_p() {
+    let mut words = [0; 6];
+    lichenhusk::list_into(&hex(D), &hex(P), &mut words).unwrap();
+    assert_eq!(words, [0, 8, 2, 1, 7, 1]);
+    let field = |id, start, span| Field { id, start, span };
+    assert_eq!(
+        lichenhusk::list(&hex(D), &hex(P)),
+        Ok(vec![field(0, 8, 2), field(1, 7, 1)])
+    );
+}
+
+#[test]
+fn the_strip_for_roll() {
+    let mut strip = [0xEE; STRIP_BYTES];
+    assert_eq!(raw::lookup(&hex(D), &hex(P), b"roll", &mut strip), 0);
+    let whole = "00 00 00 00 01 00 00 00 07 00 00 00 0A 00 00 00 00 00 00 00";
+    assert_eq!(strip, hex(whole)[..]);
+}
+
+#[test]
+fn p_cut_and_lengthened() {
+    let object = hex(P);
+    let cut = &object[..object.len() - 1];
+    assert_eq!(lichenhusk::layer(&hex(D), cut), Err(Refusal::ObjectShort));
+    for byte in 0..=255 {
+        let mut longer = object.clone();
+        longer.push(byte);
+        assert_eq!(lichenhusk::layer(&hex(D), &longer), layer(P));
+        for name in [&b"flow"[..], b"roll", b"rol"] {
+            assert_eq!(
+                lichenhusk::lookup(&hex(D), &longer, name),
+                lichenhusk::lookup(&hex(D), &object, name)
+            );
+        }
+        assert_eq!(
+            lichenhusk::list(&hex(D), &longer),
+            lichenhusk::list(&hex(D), &object)
+        );
+    }
+}
+
+#[test]
+fn small_objects() {
+    assert_eq!(layer("00"), Err(Refusal::ObjectType));
+    assert_eq!(
+        layer("02 00 00"),
+        Ok(Layer {
+            fields: 0,
+            region: 3,
+            end: 3
+        })
+    );
+    assert_eq!(lookup("02 01 00 00 00", "flow"), found(0, 5, 5));
+    let object = hex("02 01 00 00 00");
+    let child = lichenhusk::child(&hex(D), &object, b"flow").unwrap();
+    let child = child.expect("an empty child is a child");
+    assert!(child.is_empty());
+    assert_eq!(child.as_ptr(), object[5..].as_ptr());
+}
+
+#[test]
+fn objects_of_bad_ids() {
+    assert_eq!(layer("02 01 02 00 00"), Err(Refusal::ObjectId { field: 0 }));
+    assert_eq!(
+        layer("02 02 01 00 00 00 00"),
+        Err(Refusal::ObjectOrder { field: 1 })
+    );
+    assert_eq!(
+        layer("02 02 00 00 00 00 00"),
+        Err(Refusal::ObjectOrder { field: 1 })
+    );
+}
+
+#[test]
+fn objects_of_offsets_at_the_end() {
+    assert_eq!(lookup("02 01 00 01 01 00", "flow"), found(0, 6, 6));
+    assert_eq!(
+        layer("02 01 00 02 01 00"),
+        Err(Refusal::ObjectOffset { field: 0 })
+    );
+}
+
+#[test]
+fn objects_of_huge_counts() {
+    assert_eq!(layer("7E FE FF FF 1F"), Err(Refusal::ObjectShort));
+    assert_eq!(layer("7E FF FF FF 1F"), Err(Refusal::ObjectOverflow));
+}
+
+#[test]
+fn the_longest_dictionary() {
+    let dict = padded(D, LIMIT);
+    assert_eq!(lichenhusk::dictionary(&dict), accepted(2, 13));
+    let longer = padded(D, LIMIT + 1);
+    assert_eq!(
+        lichenhusk::dictionary(&longer),
+        Err(Refusal::DictionaryTooLong)
+    );
+}
+
+#[test]
+fn the_longest_object() {
+    let object = padded(P, LIMIT);
+    assert_eq!(lichenhusk::layer(&hex(D), &object), layer(P));
+    let longer = padded(P, LIMIT + 1);
+    assert_eq!(
+        lichenhusk::layer(&hex(D), &longer),
+        Err(Refusal::ObjectTooLong)
+    );
+}

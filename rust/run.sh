@@ -1,0 +1,73 @@
+#!/usr/bin/env bash
+# What can be run here, one word each: see README.md.
+#
+#   run.sh host       the host's tests
+#   run.sh short      the comparison's own tests, and a comparison that takes less than a minute
+#   run.sh long       millions of inputs
+#   run.sh replay N   answers of the Rust's, N lines at most, on standard output
+#   run.sh bench      the clock
+#
+# What cannot be run for want of cargo or of the Rust's source is skipped, and said so in one line.
+set -eu
+task=${1:-}
+[ $# -eq 0 ] || shift
+cd "$(dirname "$0")"
+
+skip() {
+  echo "skipped: $task, $*" >&2
+  exit 0
+}
+
+has_cargo() {
+  command -v cargo >/dev/null || skip "no cargo is here"
+}
+
+# The folder of the original's lib.rs, for the build of rust/original.
+has_source() {
+  local given=${LICHENHUSK_RUST_SOURCE:-../../shared/docs/src}
+  [ -f "$given/lib.rs" ] || skip "the Rust's source is not at $given (LICHENHUSK_RUST_SOURCE)"
+  LICHENHUSK_RUST_SOURCE=$(cd "$given" && pwd)
+  export LICHENHUSK_RUST_SOURCE
+}
+
+quietly() {
+  cargo "$@" --quiet --locked --offline
+}
+
+compare() {
+  quietly build --release -p differential
+  target/release/differential "$@"
+}
+
+case $task in
+  host)
+    has_cargo
+    quietly test -p lichenhusk
+    ;;
+  short)
+    has_cargo
+    has_source
+    quietly test --release -p differential
+    compare short "$@"
+    ;;
+  long)
+    has_cargo
+    has_source
+    compare long "$@"
+    ;;
+  replay)
+    has_cargo
+    has_source
+    compare replay "$@"
+    ;;
+  bench)
+    has_cargo
+    has_source
+    quietly build --profile measured -p bench
+    target/measured/bench
+    ;;
+  *)
+    sed -n '2,10p' "$0" | cut -c3- >&2
+    exit 2
+    ;;
+esac
