@@ -83,4 +83,5 @@ pub data Refusal (d : List ℕ) : ℕ → ℕ → Type 0 where
   end-short : Placed d → offset d 0 ≡ 0 → end d ≤ u32Max → length d < end d → Refusal d 13 0
   no-text : {p : ℕ} → Headed d → LongestText (region d) p → Refusal d 16 p
   bad-range : {k : ℕ} → Texted d → k < count d → ((j : ℕ) → j < k → GoodEntry d j) → (InRange d k → ⊥) → Refusal d 17 k
-  not-above : {k : ℕ} → Texted d → k < count d → ((j : ℕ) → j < k → GoodEntry d j) → InRange d k → sorted d ≡ true → 0 < k → (Before (name d (k - 1)) (name d k) → ⊥) → Refusal d 18 k
+  not-above : {k : ℕ} → Texted d → k < count d → ((j : ℕ) → j < k → GoodEntry d j) → InRange d k → sorted d ≡ true → 0 < k
+      → (Before (name d (k - 1)) (name d k) → ⊥) → Refusal d 18 k

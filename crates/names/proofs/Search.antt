@@ -40,7 +40,8 @@ module _ (name : ℕ → List ℕ) (query : List ℕ) where
   seek-at zero k e = let z : _≡_ {A = ℕ} 0 1 = cc in absurd (omega arith)
   seek-at (suc n) k e = go (same (name n) query) refl (seek-at n k) e
     where
-      go : (b : Bool) → same (name n) query ≡ b → (seek name query n ≡ here k → (k < n) × (name k ≡ query)) → cond b (here n) (seek name query n) ≡ here k → (k < suc n) × (name k ≡ query)
+      go : (b : Bool) → same (name n) query ≡ b → (seek name query n ≡ here k → (k < n) × (name k ≡ query))
+          → cond b (here n) (seek name query n) ≡ here k → (k < suc n) × (name k ≡ query)
       go true f r e = let z : n ≡ k = cc in (omega arith, rw (← z) (is-same (name n) query f))
       go false f r e = let w = r e in (omega (arith, w .0), w .1)
 

@@ -33,7 +33,8 @@ module _ (d t strip : List ℕ) (fits : length (d ++ t) ≤ limit) where
     pub lookup-strip : (q : List ℕ) → object-appended.Settled (codeOf (object.lookup d o q)) → Same strip (lookupWords d o q) (lookupWords (d ++ t) (o ++ u) q)
     lookup-strip q s = same strip (ap fieldWords (object-appended.lookup-appended d t o u fits object-fits q s))
 
-    pub list-strip : (w : List ℕ) → object-appended.Settled (codeOf (object.listed d o w)) → Same strip (listWords d o w) (listWords (d ++ t) (o ++ u) w) × (listAfter (d ++ t) (o ++ u) w strip ≡ listAfter d o w strip)
+    pub list-strip : (w : List ℕ) → object-appended.Settled (codeOf (object.listed d o w))
+        → Same strip (listWords d o w) (listWords (d ++ t) (o ++ u) w) × (listAfter (d ++ t) (o ++ u) w strip ≡ listAfter d o w strip)
     unfolding listAfter
     list-strip w s =
         (same strip (ap fieldWords (object-appended.listed-appended d t o u fits object-fits w s)), rw (object-appended.words-appended d t o u fits object-fits w s))

@@ -88,7 +88,8 @@ module _ (d : List ℕ) where
     lookup-fits q =
         after-checks fieldWords _ opened (λ g. go g (seek (object.fieldName d o) q (object.count o)) (seek-at (object.fieldName d o) q (object.count o))) (λ c p s. omega arith)
       where
-        go : Layer d o (object.count o) (object.start o) (object.end o) → (s : Sought) → ((k : ℕ) → s ≡ here k → (k < object.count o) × (object.fieldName d o k ≡ q)) → Fits (fieldWords (object.found o s))
+        go : Layer d o (object.count o) (object.start o) (object.end o) → (s : Sought)
+            → ((k : ℕ) → s ≡ here k → (k < object.count o) × (object.fieldName d o k ≡ q)) → Fits (fieldWords (object.found o s))
         go g nowhere is = omega arith
         go g (here k) is = let p = is k refl .0 in let s = layer-small d o g in omega (arith, child-small d o k g p)
 

@@ -13,6 +13,7 @@ module _ (strip words : List ℕ) where
   unfolding returned stripAfter
   no-strip h = rw (lt-ltb _ _ h) (refl, refl)
 
-  pub on-strip : 20 ≤ length strip → {w : Words} {code : ℕ} {after : List ℕ} → listOf w ≡ words → code ≡ w .code → after ≡ bytesOfWords (listOf w) ++ drop 20 strip → (code ≡ returned strip words) × (after ≡ stripAfter strip words)
+  pub on-strip : 20 ≤ length strip → {w : Words} {code : ℕ} {after : List ℕ} → listOf w ≡ words → code ≡ w .code
+      → after ≡ bytesOfWords (listOf w) ++ drop 20 strip → (code ≡ returned strip words) × (after ≡ stripAfter strip words)
   unfolding returned stripAfter
   on-strip h e c a = rw (le-ltb _ _ h, ← e) (c, a)

@@ -20,5 +20,6 @@ pub list-pinned : (d o words strip : List ℕ) (w w′ : List ℕ) → w ≡ lis
 list-pinned d o words strip w w′ p q = p ∙ sym q
 
 -- the empty dictionary
-pub empty-pinned : (room : List ℕ) (c c′ : ℕ) (a a′ : List ℕ) → c ≡ codeOf (emptied room) → a ≡ roomAfter room → c′ ≡ codeOf (emptied room) → a′ ≡ roomAfter room → (c ≡ c′) × (a ≡ a′)
+pub empty-pinned : (room : List ℕ) (c c′ : ℕ) (a a′ : List ℕ) → c ≡ codeOf (emptied room) → a ≡ roomAfter room
+    → c′ ≡ codeOf (emptied room) → a′ ≡ roomAfter room → (c ≡ c′) × (a ≡ a′)
 empty-pinned room c c′ a a′ p q r s = (p ∙ sym r, q ∙ sym s)

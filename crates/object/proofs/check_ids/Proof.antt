@@ -42,8 +42,11 @@ check-ids-spec =
     let a = c .before .before .before .before .before .before .before .args in
     let fine = rw (c .if2 .left) at (c .before .id-not-above .ensures) in
     let k-is : l .k + 1 - 1 ≡ l .k = omega arith in
-    let rows = idRules (a .entries) (a .object .now) (l .k) in
-    (omega arith, (λ p. rw k-is (c .before .before .before .id-at .ensures .0)), each-more _ (l .k) (l .inv .2) ∙ first-pass rows (omega arith, ((λ p. let f = fine p in let g = l .inv .1 p in omega arith), tt))))  -- loop-again
+    let rows = idRules (a .entries) (a .object .now) (l .k) in (
+      omega arith,
+      (λ p. rw k-is (c .before .before .before .id-at .ensures .0)),
+      each-more _ (l .k) (l .inv .2) ∙ first-pass rows (omega arith, ((λ p. let f = fine p in let g = l .inv .1 p in omega arith), tt)),
+    ))  -- loop-again
     (λ c. let l = c .before .loop in
     let all : l .k ≡ countOf (c .before .before .before .args .object .now) = omega arith in
     rw (← all) (sym (l .inv .2))))  -- returns-3

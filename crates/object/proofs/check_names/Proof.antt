@@ -13,7 +13,8 @@ use Rattle.object.proofs.check_names.Statement.{statement}
 use Rattle.object.proofs.check_names.Tie as tie
 
 abbrev Inv-loop : tie.InvT-loop
-Inv-loop dict h object l entries count p₀ q₀ k₀ p q k = (k ≤ count) × (p ≤ q) × (q ≤ length dict) × (0 < k → part dict p q ≡ fieldName dict object (k - 1)) × (first (each (nameRules dict object) k) ≡ pass)
+Inv-loop dict h object l entries count p₀ q₀ k₀ p q k =
+    (k ≤ count) × (p ≤ q) × (q ≤ length dict) × (0 < k → part dict p q ≡ fieldName dict object (k - 1)) × (first (each (nameRules dict object) k) ≡ pass)
 
 abbrev μ-loop : tie.MeasureT-loop
 μ-loop dict h object l entries count p₀ q₀ k₀ p q k = count - k

@@ -13,7 +13,9 @@ use Rattle.object.proofs.Laws.{in-region, end-is}
 use Rattle.object.proofs.get.Statement.{statement}
 use Rattle.object.proofs.get.Tie as tie
 
-message : (c : tie.After-l) → MessageOf (c .before .before .before .before .before .before .before .before .before .before .before .before .args .dict .now) (c .before .before .before .before .before .before .before .before .before .before .before .before .args .object .now) (c .before .before .before .before .before .before .opening2 .given .0 .0)
+message : (c : tie.After-l) → let m = c .before .before .before .before .before .before in
+    let a = m .before .before .before .before .before .before .args in
+    MessageOf (a .dict .now) (a .object .now) (m .opening2 .given .0 .0)
 message c = rw (c .before .before .before .before .before .before .opening2 .given .1) at (c .before .before .before .before .before .before .before .before .open .ensures)
 
 -- what was found is the field that is sought
@@ -22,7 +24,9 @@ sought : (c : tie.After-l) → let a = c .before .before .before .before .before
 sought c = sym (c .before .before .before .before .find .ensures) ∙ ap soughtOf (c .before .before .found .given .1)
 
 field : (c : tie.After-l) → c .before .before .found .given .0 .0 < count (c .before .before .before .before .before .before .before .before .before .before .before .before .args .object .now)
-field c = let a = c .before .before .before .before .before .before .before .before .before .before .before .before .args in seek-at (fieldName (a .dict .now) (a .object .now)) (a .name .now) _ _ (sought c) .0
+field c =
+    let a = c .before .before .before .before .before .before .before .before .before .before .before .before .args in
+    seek-at (fieldName (a .dict .now) (a .object .now)) (a .name .now) _ _ (sought c) .0
 
 pub get-spec : {M : Type 1} → statement M
 unfolding lookup
@@ -42,7 +46,8 @@ get-spec =
     omega (arith, m .layered .passes, in-region (s .args .dict .now) (s .args .object .now) (m .passes) _ (field l), end-is (s .args .object .now)))  -- add-t13
     (λ c. sym (refused _ (rw (c .before .opening .given .1) at (c .before .before .before .open .ensures))))  -- returns
     (λ c. let m = rw (c .before .before .before .before .opening2 .given .1) at (c .before .before .before .before .before .before .open .ensures) in
-    sym (answered _ (m .passes) ∙ ap (found (c .before .before .before .before .before .before .before .before .before .before .args .object .now)) (sym (c .before .before .find .ensures) ∙ ap soughtOf (c .enum-told .given .1))))  -- returns-2
+    let o = c .before .before .before .before .before .before .before .before .before .before .args .object .now in
+    sym (answered _ (m .passes) ∙ ap (found o) (sym (c .before .before .find .ensures) ∙ ap soughtOf (c .enum-told .given .1))))  -- returns-2
     (λ c. let l = c .before .before in
     let m = message l in
     rw (m .layered .start-is, m .layered .end-is, c .before .offset-at .ensures .0)

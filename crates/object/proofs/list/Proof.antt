@@ -32,7 +32,8 @@ list-spec =
     (λ c. let e = stops _ (rw (c .before .opening .given .1) at (c .before .before .before .open .ensures)) in
     (sym (refused _ e), rw e))  -- returns-2
     (λ c. search needs)  -- same-length
-    (λ c. let m = rw (c .before .before .before .before .before .before .before .before .opening2 .given .1) at (c .before .before .before .before .before .before .before .before .before .before .open .ensures) in
+    (λ c. let n = c .before .before .before .before .before .before .before .before in
+    let m = rw (n .opening2 .given .1) at (n .before .before .open .ensures) in
     let a = c .before .before .before .before .before .before .before .before .before .before .before .before .before .before .args in
     let room : 3 * count (a .object .now) ≤ length (a .words .now) = omega (arith, m .layered .count-is) in
     let e = goes _ (m .passes) ∙ first-pass _ (room, tt) in (

@@ -17,4 +17,5 @@ open-spec =
     (λ c. by-dictionary _ _ (rw (c .before .head .given .1) at (c .before .before .before .checked .ensures)))  -- returns
     (λ c. rw (c .before .layer .given .1) at (c .before .before .before .check-layer .ensures))  -- returns-2
     (λ c. let l = rw (c .before .layer2 .given .1) at (c .before .before .before .check-layer .ensures) in
-    record { over = rw (c .before .before .before .before .before .head2 .given .1) at (c .before .before .before .before .before .before .before .checked .ensures); layered = l .0; passes = l .1 }))  -- returns-3
+    let h = c .before .before .before .before .before in
+    record { over = rw (h .head2 .given .1) at (h .before .before .checked .ensures); layered = l .0; passes = l .1 }))  -- returns-3

@@ -19,7 +19,7 @@ abbrev μ-loop : tie.MeasureT-loop
 μ-loop object l words₀ count at₀ k₀ words at k = count - k
 
 -- a child that starts in the region ends before the trimmed end
-inside : (c : tie.After-id-at Inv-loop μ-loop) → c .before .before .before .before .before .before .args .l .start + c .before .offset-at .result ≤ c .before .before .before .before .before .before .args .l .end
+inside : (c : tie.After-id-at Inv-loop μ-loop) → let l = c .before .before .before .before .before .before .args .l in l .start + c .before .offset-at .result ≤ l .end
 inside c =
     let s = c .before .before .before .before .before .before in
     omega (arith, s .pre .1 (c .before .before .before .loop .k) (omega arith), end-is (s .args .object .now))

@@ -16,4 +16,6 @@ lichenhusk-dictionary-spec =
     (λ c κs. search needs)  -- of-verdict-requires
     (λ c κs. search needs)  -- write-requires
     (λ c. search needs)  -- same-length
-    (λ c. on-strip _ _ (omega arith) (c .before .before .before .before .of-verdict .ensures ∙ ap dictionaryWords (c .before .before .before .before .before .check .ensures)) (c .before .before .write .ensures .0) (c .before .before .write .ensures .1)))  -- returns-2
+    (λ c. let w = c .before .before in
+    let five = w .before .before in
+    on-strip _ _ (omega arith) (five .of-verdict .ensures ∙ ap dictionaryWords (five .before .check .ensures)) (w .write .ensures .0) (w .write .ensures .1)))  -- returns-2

@@ -21,6 +21,11 @@ lichenhusk-list-spec =
     (λ c κs. search needs)  -- write-requires
     (λ c. search needs)  -- same-length
     (λ c. search needs)  -- same-length-2
-    (λ c. let answers = c .before .before .before .before .before .before .before .list .ensures in
-    let five = on-strip _ _ (omega arith) (c .before .before .before .before .of-listing .ensures ∙ ap fieldWords (answers .0)) (c .before .before .write .ensures .0) (c .before .before .write .ensures .1) in
-    (five .0, (five .1, answers .1 ∙ rw (le-ltb (length (c .before .before .before .before .before .before .before .before .before .before .before .before .before .before .args .strip .now)) 20 (omega arith))))))  -- returns-2
+    (λ c. let w = c .before .before in
+    let five = w .before .before in
+    let l = five .before .before .before in
+    let answers = l .list .ensures in
+    let told = five .of-listing .ensures ∙ ap fieldWords (answers .0) in
+    let left = on-strip _ _ (omega arith) told (w .write .ensures .0) (w .write .ensures .1) in
+    let strip = l .before .before .before .before .before .before .before .args .strip .now in
+    (left .0, (left .1, answers .1 ∙ rw (le-ltb (length strip) 20 (omega arith))))))  -- returns-2
