@@ -1,31 +1,29 @@
 # make run: the main job on an embedded sample. make test: everything that must pass.
 
-# The original, unchanged, which the comparison is made with.
-RUST_SOURCE ?= $(CURDIR)/../shared/docs/src
-
-.PHONY: run test host-test differential bench archive
+.PHONY: run test host archive differential bench
 
 # The command, proved and built, on document 01's dictionary and object.
 run:
 	@rt check variant >/dev/null || { rt check variant; exit 1; }
 	@target/bin/variant
 
-# First what needs Rust, so that the very last line is rt ci's.
-test: host-test
-	rt ci
+# First what needs Rust, so that the very last line is rt ci's own.
+test: host
+	@rt ci
 
-# The Rust host and a short comparison with the original, where cargo is there.
-host-test:
-	@tools/host_test.sh
+# The host's crate and a short comparison with the original, where cargo and its source are there.
+host: archive
+	@rust/run.sh host
+	@rust/run.sh short
 
 # The archive that C and Rust link.
 archive:
-	@rt staticlib strip
+	@rt staticlib strip >/dev/null || { rt staticlib strip; exit 1; }
 
-# A million inputs and more.
+# The comparison on a million inputs and more.
 differential: archive
-	@tools/differential.sh long
+	@rust/run.sh long
 
 # Both clocks in one run.
 bench: archive
-	@tools/bench.sh
+	@rust/run.sh bench
