@@ -17,7 +17,7 @@ use Rattle.utf8.specs.declared.Lead.the-variants.{Bad, Seq}
 use Rattle.utf8.specs.Utf8.{Tails, Char, Text, leadOf, tailsOf, charBy, char, textUpTo}
 use Rattle.utf8.specs.Utf8.Tails.{end, next}
 use Rattle.utf8.specs.Utf8.Char.{char-of}
-use Rattle.utf8.proofs.Table.{and-true}
+use Rattle.utf8.proofs.Table.{and-true, lead-is}
 
 -- The bytes after it.
 
@@ -108,6 +108,9 @@ module _ (at : ℕ) (s : List ℕ) where
   pub char-seq : {l h n : ℕ} (t : Bool) → at < length s → leadOf (getD s at 0) ≡ Seq l h n → t ≡ tailsOf l h n (drop (at + 1) s) → char (drop at s) ≡ cond t (n + 1) 0
   unfolding char
   char-seq {n = n} t q e f = rw (f, drop-cons s at 0 q, e, add-one at, add-one n)
+
+  pub char-plain : at < length s → getD s at 0 < 0x80 → char (drop at s) ≡ 1
+  char-plain q p = char-seq true q (lead-is 0x00 0x7F (Seq 0x80 0xBF 0) refl (omega arith) (omega arith)) (sym (tails-none 0x80 0xBF (at + 1) s))
 
   pub tails-fit : (l h n : ℕ) → tailsOf l h n (drop at s) ≡ true → n ≤ length s - at
   tails-fit l h n e = rw length-drop at (tails-sound l h n (drop at s) e .0)

@@ -61,14 +61,18 @@ fn tails(s: &[u8], from: usize, first: u8, last: u8, rest: usize) -> bool
     true
 }
 
-// The length of the character that starts at `at`; 0 where none does.
+// The length of the character that starts at `at`; 0 where none does. Most are one byte: these are told before the table is asked.
 fn char_at(s: &[u8], at: usize) -> usize
     ensures { λ r. ⌜ r ≡ char (drop at (now (s .entry))) ⌝ }
 {
     if s.len() <= at {
         return 0;
     }
-    let lead = classify(s[at]);
+    let first = s[at];
+    if first < 0x80 {
+        return 1;
+    }
+    let lead = classify(first);
     match lead {
         Lead::Bad => 0,
         Lead::Seq { lo, hi, rest } => {

@@ -4,7 +4,7 @@ use mathlib.Core.Bool.{true, false}
 use Prim.Native.Nat.{_+_}
 use native.Mathlib.Omega.{arith}
 use borrow.Author.Needs.{needs}
-use Rattle.utf8.proofs.Laws.{char-end, char-bad, char-seq, tails-fit}
+use Rattle.utf8.proofs.Laws.{char-end, char-plain, char-bad, char-seq, tails-fit}
 use Rattle.utf8.proofs.char_at.Statement.{statement}
 use Rattle.utf8.proofs.char_at.Tie as tie
 
@@ -13,17 +13,18 @@ char-at-spec =
     tie.close
     (tie.spec
     (λ c. let a = c .before .before .args in sym (char-end (a .at) (a .s .now) (c .if1 .taken)))  -- returns
-    (λ c. search needs)  -- shared-slice-read-classify
+    (λ c. search needs)  -- shared-slice-read-first
+    (λ c. let a = c .before .before .before .before .args in sym (char-plain (a .at) (a .s .now) (omega arith) (c .if2 .taken)))  -- returns-2
     (λ c κs. search needs)  -- classify-requires
     (λ c. search needs)  -- enum-told
     (λ c. search needs)  -- enum-known-lead
     (λ c. search needs)  -- add-tails
     (λ c κs. search needs)  -- tails-requires
-    (λ c. let a = c .before .before .before .before .before .before .before .before .before .args in
-    omega (arith, tails-fit (a .at + 1) (a .s .now) _ _ _ (sym (c .before .tails .ensures) ∙ c .if2 .taken)))  -- add-result
-    (λ c. let k = c .before .before in let a = k .before .before .before .before .args in
+    (λ c. let a = c .before .before .before .before .before .before .before .before .before .before .args in
+    omega (arith, tails-fit (a .at + 1) (a .s .now) _ _ _ (sym (c .before .tails .ensures) ∙ c .if3 .taken)))  -- add-result
+    (λ c. let k = c .before .before in let a = k .before .before .before .before .before .args in
     sym (char-bad (a .at) (a .s .now) (omega arith) (sym (k .classify .ensures) ∙ c .enum-told .given .1)))  -- returns-2
-    (λ c. let m = c .before .before .before in let k = m .before .before in let a = k .before .before .before .before .args in
-    sym (char-seq (a .at) (a .s .now) true (omega arith) (sym (k .classify .ensures) ∙ m .lead .given .1) (sym (c .if2 .taken) ∙ c .before .tails .ensures)))  -- returns-3
-    (λ c. let m = c .before .before .before in let k = m .before .before in let a = k .before .before .before .before .args in
-    sym (char-seq (a .at) (a .s .now) false (omega arith) (sym (k .classify .ensures) ∙ m .lead .given .1) (sym (c .if2 .left) ∙ c .before .tails .ensures))))  -- returns-4
+    (λ c. let m = c .before .before .before in let k = m .before .before in let a = k .before .before .before .before .before .args in
+    sym (char-seq (a .at) (a .s .now) true (omega arith) (sym (k .classify .ensures) ∙ m .lead .given .1) (sym (c .if3 .taken) ∙ c .before .tails .ensures)))  -- returns-3
+    (λ c. let m = c .before .before .before in let k = m .before .before in let a = k .before .before .before .before .before .args in
+    sym (char-seq (a .at) (a .s .now) false (omega arith) (sym (k .classify .ensures) ∙ m .lead .given .1) (sym (c .if3 .left) ∙ c .before .tails .ensures))))  -- returns-4
