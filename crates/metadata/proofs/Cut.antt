@@ -1,27 +1,16 @@
 -- An accepted dictionary, cut anywhere before its trimmed end, is refused as empty or short. Assumes nothing.
-use mathlib.Core.Path.{_≡_, refl}
+use mathlib.Core.Path.{_≡_}
 use mathlib.Core.Logic.{_⊎_}
-use mathlib.Core.Logic._⊎_.{inl, inr}
-use mathlib.Core.Bool.{Bool, true, false, _||_}
 use mathlib.Core.List.{List, [], _∷_}
 use Prim.Native.Nat.{ℕ, _<_}
 use native.Mathlib.Omega.{arith}
-use borrow.Author.Tests.{eqb-true}
-use lib.Dec.{eqb}
 use lib.ListN.{take, drop, length-take, take-append-drop}
 use Rattle.rules.specs.Rules.{Stays, accept, codeOf}
 use Rattle.rules.specs.Rules.Found.{pass}
-use Rattle.rules.proofs.Laws.{let-through, cut-lifted}
+use Rattle.rules.proofs.Laws.{let-through, cut-lifted, which}
 use Rattle.metadata.specs.Dictionary.{count, end, checks, verdict}
 use Rattle.metadata.proofs.Means.{good}
 use Rattle.metadata.proofs.Appended.{lifted, end-same, checks-kept}
-
-which : (c : ℕ) → lifted c ≡ true → (c ≡ 11) ⊎ (c ≡ 13)
-which c e = go (eqb c 11) refl e
-  where
-    go : (b : Bool) → eqb c 11 ≡ b → (b || eqb c 13) ≡ true → (c ≡ 11) ⊎ (c ≡ 13)
-    go true u e = inl (eqb-true c 11 u)
-    go false u e = inr (eqb-true c 13 e)
 
 -- what passes reaches its trimmed end, and the bytes after do not move that
 too-short : (d : List ℕ) (m : ℕ) → m < end d → checks (take m d) ≡ pass → ⊥
@@ -38,4 +27,4 @@ cut d n e m v p =
     let g = good d (through .0) in
     let stays : Stays lifted (checks (take m d)) (checks d) =
     rw take-append-drop at (checks-kept (take m d) (drop m d) (rw take-append-drop (omega arith))) in
-    which _ (cut-lifted lifted (checks (take m d)) (checks d) _ stays (through .0) (too-short d m (omega arith)))
+    which 11 13 _ (cut-lifted lifted (checks (take m d)) (checks d) _ stays (through .0) (too-short d m (omega arith)))

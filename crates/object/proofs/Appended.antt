@@ -15,7 +15,7 @@ use Rattle.part.proofs.Laws.{part-append}
 use Rattle.names.specs.Search.{Sought, seek}
 use Rattle.names.specs.Search.Sought.{nowhere, here}
 use Rattle.names.proofs.Search.{seek-at}
-use Rattle.rules.specs.Rules.{Found, Answer, Kept, Stays, codeOf, first, each, _orElse_, _otherwise_}
+use Rattle.rules.specs.Rules.{Found, Kept, Stays, codeOf, first, each, _orElse_, _otherwise_}
 use Rattle.rules.specs.Rules.Test.{_<?_}
 use Rattle.rules.specs.Rules.Rule.{_⇒_at_}
 use Rattle.rules.specs.Rules.Found.{pass, stop}
@@ -27,7 +27,7 @@ use Rattle.metadata.proofs.Appended as dictionary-appended
 use Rattle.object.specs.Object.{basicType, offsetWidth, idWidth, countWidth, count, idsStart, id, offsetsStart, offset, start, end, fieldName}
 use Rattle.object.specs.Object.{headRules, nameRules, offsetRules, checks, layer, verdict, found, lookup, startOf, endOf}
 use Rattle.object.specs.Object.{leastAbove, span, row, rows, listChecks, listed, unlessRefused, wordsAfter}
-use Rattle.object.proofs.Laws.{ids-before, offsets-before, start-before, id-inside, offset-inside, passes, entry-of}
+use Rattle.object.proofs.Laws.{ids-before, offsets-before, id-inside, offset-inside, passes, entry-of}
 use Rattle.object.proofs.Finds.{child-inside}
 use Rattle.object.proofs.Means.{good}
 

@@ -1,28 +1,17 @@
 -- An accepted object, cut anywhere before its trimmed end, is refused as empty or short over the same dictionary. Assumes nothing.
-use mathlib.Core.Path.{_≡_, refl, _∙_}
+use mathlib.Core.Path.{_≡_, _∙_}
 use mathlib.Core.Logic.{_⊎_}
-use mathlib.Core.Logic._⊎_.{inl, inr}
-use mathlib.Core.Bool.{Bool, true, false, _||_}
 use mathlib.Core.List.{List, [], _∷_, append-nil}
 use Prim.Native.Nat.{ℕ, _<_}
 use native.Mathlib.Omega.{arith}
-use borrow.Author.Tests.{eqb-true}
-use lib.Dec.{eqb}
 use lib.ListN.{take, drop, length-take, take-append-drop}
 use Rattle.rules.specs.Rules.{Stays, accept, codeOf}
 use Rattle.rules.specs.Rules.Found.{pass}
-use Rattle.rules.proofs.Laws.{let-through, both-pass, goes, cut-lifted}
+use Rattle.rules.proofs.Laws.{let-through, both-pass, goes, cut-lifted, which}
 use Rattle.metadata.specs.Dictionary as dictionary
 use Rattle.object.specs.Object.{end, checks, layer, verdict}
 use Rattle.object.proofs.Means.{good}
 use Rattle.object.proofs.Appended.{liftedHere, own, end-same, own-kept}
-
-which : (c : ℕ) → liftedHere c ≡ true → (c ≡ 21) ⊎ (c ≡ 23)
-which c e = go (eqb c 21) refl e
-  where
-    go : (b : Bool) → eqb c 21 ≡ b → (b || eqb c 23) ≡ true → (c ≡ 21) ⊎ (c ≡ 23)
-    go true u e = inl (eqb-true c 21 u)
-    go false u e = inr (eqb-true c 23 e)
 
 -- what passes reaches its trimmed end, and the bytes after do not move that
 too-short : (d o : List ℕ) (m : ℕ) → m < end o → checks d (take m o) ≡ pass → ⊥
@@ -42,4 +31,4 @@ cut d o n v e m a p =
     let stays : Stays liftedHere (own d (take m o)) (own d o) =
     rw (take-append-drop m o, append-nil d) at (own-kept d [] (take m o) (drop m o) (both .0) (rw take-append-drop (omega arith))) in
     let short : own d (take m o) ≡ pass → ⊥ = λ w. too-short d o m (omega arith) (goes _ (both .0) ∙ w) in
-    which _ (rw (goes (own d (take m o)) (both .0)) (cut-lifted liftedHere (own d (take m o)) (own d o) _ stays (both .1) short))
+    which 21 23 _ (rw (goes (own d (take m o)) (both .0)) (cut-lifted liftedHere (own d (take m o)) (own d o) _ stays (both .1) short))

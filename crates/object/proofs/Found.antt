@@ -1,6 +1,6 @@
 -- The lookup finds field k exactly when the layer is accepted and k is its field of that name; it says absent exactly when the layer is
 -- accepted and has no such field; it refuses as the verdict does; and never two fields have one name. Assumes nothing.
-use mathlib.Core.Path.{_≡_, refl, sym, _∙_}
+use mathlib.Core.Path.{_≡_, refl, _∙_}
 use mathlib.Core.Logic.{_↔_}
 use mathlib.Core.List.{List, [], _∷_}
 use Prim.Native.Nat.{ℕ, _≤_, _<_}

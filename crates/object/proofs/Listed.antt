@@ -1,6 +1,6 @@
 -- The words of a listing: three a field in field order, its id, its start and its span; the words after these stay, and a refusal leaves all.
 -- The span runs to the least of the n + 1 offsets above the field's own, and is 0 if none is. Assumes nothing.
-use mathlib.Core.Path.{_≡_, refl, sym, _∙_}
+use mathlib.Core.Path.{_≡_, refl, _∙_}
 use mathlib.Core.Logic.{_⊎_}
 use mathlib.Core.Logic._⊎_.{inl, inr}
 use mathlib.Core.Bool.{Bool, true, false, cond, _&&_, _||_}
@@ -11,12 +11,11 @@ use native.Mathlib.Nat.{add-zero}
 use native.Mathlib.Omega.{arith}
 use borrow.Author.Tests.{ltb-true, ltb-false, leb-true, leb-false}
 use lib.Dec.{ltb, leb}
-use lib.ListN.{length, take, drop, getD, List·getD-append}
+use lib.ListN.{take, drop, getD, List·getD-append}
 use lib.Seq.{getD-append-add, take-at, drop-at}
-use Rattle.rules.specs.Rules.{Found, accept, refuse, _otherwise_}
-use Rattle.rules.specs.Rules.Found.{pass, stop}
+use Rattle.rules.specs.Rules.{accept, refuse}
 use Rattle.rules.proofs.Laws.{let-through, turned-down, and-last}
-use Rattle.object.specs.Object.{count, id, offset, start, end, layer, nearer, leastAbove, span, row, rows, listChecks, listed, wordsAfter}
+use Rattle.object.specs.Object.{count, id, offset, start, end, layer, leastAbove, span, row, rows, listChecks, listed, wordsAfter}
 use Rattle.object.proofs.Rows.{rows-length}
 
 -- THE WORDS OF A FIELD

@@ -9,7 +9,7 @@ use Rattle.names.specs.Order.{Before}
 use Rattle.metadata.specs.Limits.{limit, u32Max}
 use Rattle.metadata.specs.Dictionary as dictionary
 use Rattle.metadata.specs.Meaning as dictionary-meaning
-use Rattle.object.specs.Object.{basicType, countWidth, count, idsStart, id, offsetsStart, offset, start, end, fieldName}
+use Rattle.object.specs.Object.{basicType, count, idsStart, id, offsetsStart, offset, start, end, fieldName}
 
 -- WHAT THE CHECKS ASK, EACH WITH THOSE BEFORE IT
 

@@ -1,12 +1,15 @@
 -- Laws of tests and tables: what a verdict says when it accepts, when it refuses, when bytes are added and when they are cut off.
 -- Assumes nothing.
 use mathlib.Core.Path.{_≡_, refl, sym, ap, _∙_}
-use mathlib.Core.Bool.{Bool, true, false, not, cond, _&&_}
+use mathlib.Core.Bool.{Bool, true, false, not, cond, _&&_, _||_}
+use mathlib.Core.Logic.{_⊎_}
+use mathlib.Core.Logic._⊎_.{inl, inr}
 use mathlib.Core.List.{List, [], _∷_, _++_}
-use Prim.Native.Nat.{ℕ, zero, suc, _+_, _≤_, _<_}
+use Prim.Native.Nat.{ℕ, zero, suc, _+_, _<_}
 use native.Mathlib.Decide.{decLt}
 use native.Mathlib.Numerals.{add-one}
 use native.Mathlib.Omega.{arith}
+use lib.Dec.{eqb}
 use borrow.Author.Tests.{lt-ltb, le-ltb, ltb-true, ltb-false, le-leb, lt-leb, leb-true, leb-false, eq-eqb, ne-eqb, eqb-true, eqb-false, not-true, not-false}
 use Rattle.rules.specs.Rules.{Answer, refuse, accept, codeOf, Test, Holds, Fails, holds, Rule, Found, first, each, _orElse_, _otherwise_, Passed, At, refusalAt, Stands, Kept, Stays}
 use Rattle.rules.specs.Rules.Answer.{gives}
@@ -308,6 +311,14 @@ cut-lifted lifted (stop c p) g x k e n = go (lifted c) refl
     go : (b : Bool) → lifted c ≡ b → lifted c ≡ true
     go true w = w
     go false w = stop-pass (sym (k w) ∙ e)
+
+-- which of two numbers it is, where these two are lifted
+pub which : (a b c : ℕ) → (eqb c a || eqb c b) ≡ true → (c ≡ a) ⊎ (c ≡ b)
+which a b c e = go (eqb c a) refl e
+  where
+    go : (u : Bool) → eqb c a ≡ u → (u || eqb c b) ≡ true → (c ≡ a) ⊎ (c ≡ b)
+    go true w e = inl (eqb-true c a w)
+    go false w e = inr (eqb-true c b e)
 
 -- TWO FAMILIES OF ONE MEANING
 
