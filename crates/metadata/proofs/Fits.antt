@@ -1,11 +1,10 @@
 -- Every number of the dictionary's answers fits 32 bits: what an accepted one gives, and each refusal's number and place. Assumes nothing.
 use mathlib.Core.List.{List}
-use Prim.Native.Nat.{ℕ, _+_, _*_, _≤_, _<_}
+use Prim.Native.Nat.{ℕ, _+_, _<_}
 use native.Mathlib.Nat.{mul-le-mul-right}
 use native.Mathlib.Omega.{arith}
-use lib.ListN.{length}
-use Rattle.metadata.specs.Limits.{limit, u32Max}
-use Rattle.metadata.specs.Dictionary.{width, count, offset, start, end, region}
+use Rattle.metadata.specs.Limits.{u32Max}
+use Rattle.metadata.specs.Dictionary.{width, count, offset, start, end}
 use Rattle.metadata.specs.Meaning.{Dictionary, Refusal}
 use Rattle.metadata.specs.Meaning.Refusal.{too-long, empty, other-version, count-cut, start-sum, start-short, first-offset, end-sum, end-short, no-text, bad-range, not-above}
 use Rattle.metadata.proofs.Laws.{start-before, end-is, region-length}

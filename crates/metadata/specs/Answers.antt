@@ -1,11 +1,9 @@
 -- Document 01's number, values and place for each case of the answers. Assumes nothing.
-use mathlib.Core.List.{List, [], _∷_}
+use mathlib.Core.List.{[], _∷_}
 use Prim.Native.Nat.{ℕ}
-use Rattle.rules.specs.Rules.{Answer, refuse, accept, Found}
-use Rattle.rules.specs.Rules.Found.{stop}
+use Rattle.rules.specs.Rules.{Answer, refuse, accept}
 use Rattle.metadata.specs.declared.Refusal.{Refusal}
 use Rattle.metadata.specs.declared.Refusal.the-variants.{TooLong, Empty, Version, Short, Sum, FirstOffset, NotUtf8, Range, NotAbove}
-use Rattle.metadata.specs.declared.Span.{Span}
 use Rattle.metadata.specs.declared.Verdict.{Verdict}
 use Rattle.metadata.specs.declared.Verdict.the-variants as verdict
 use Rattle.metadata.specs.declared.Entry.{Entry}

@@ -1,15 +1,13 @@
 // The metadata dictionary: its verdict, a name by entry number, and the empty one (metadata.rs: VariantMetadata).
 ghost use mathlib.Core.Path.{_≡_};
-ghost use mathlib.Core.Bool.{Bool};
 ghost use Prim.Native.Nat.{_+_, _*_, _≤_, _<_};
-ghost use lib.ListN.{length, drop};
-ghost use Rattle.width.specs.Width.{Unpacked};
+ghost use lib.ListN.{length};
 ghost use Rattle.part.specs.Part.{part};
 ghost use Rattle.utf8.specs.Utf8.{Text};
 ghost use Rattle.names.specs.Order.{below};
 ghost use Rattle.rules.specs.Rules.{first, each, Says};
 ghost use Rattle.rules.specs.Rules.Test.{is, isn't, _<?_, _and_};
-ghost use Rattle.metadata.specs.Dictionary.{width as widthOf, count as countOf, start as startOf, end as endOf, offset as offsetOf, region as regionOf, name as nameOf, cuts, regionRules, entryRules, checks, verdict, nameAt, emptied, roomAfter};
+ghost use Rattle.metadata.specs.Dictionary.{width as widthOf, count as countOf, start as startOf, end as endOf, offset as offsetOf, region as regionOf, cuts, regionRules, entryRules, checks, verdict, nameAt, emptied, roomAfter};
 ghost use Rattle.metadata.specs.Answers.{verdictNumbers, entryNumbers, writtenNumbers};
 ghost use Rattle.metadata.specs.Steps.{LeadOf, PlacesOf, HeaderOf, HeadOf, Reached, EntryOf, foundOf, CheckedOf, SpanOf};
 

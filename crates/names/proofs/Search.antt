@@ -8,7 +8,7 @@ use native.Mathlib.Omega.{arith}
 use Rattle.names.specs.declared.Order.{Order}
 use Rattle.names.specs.declared.Order.the-variants.{Less, Equal, Greater}
 use Rattle.names.specs.Order.{Before, compareOf}
-use Rattle.names.specs.Search.{isEqual, same, Sought, seek, Rising}
+use Rattle.names.specs.Search.{isEqual, same, seek, Rising}
 use Rattle.names.specs.Search.Sought.{nowhere, here}
 use Rattle.names.proofs.Laws.{compare-refl, compare-equal, less-before, greater-before, before-trans, before-ne}
 

@@ -3,7 +3,6 @@
 use mathlib.Core.List.{List}
 use Prim.Native.Nat.{ℕ, _+_, _≤_, _<_}
 use native.Mathlib.Omega.{arith}
-use lib.ListN.{length}
 use Rattle.metadata.specs.Limits.{u32Max}
 use Rattle.metadata.proofs.Fits.{Small, small-zero}
 use Rattle.metadata.proofs.Fits as dictionary-fits

@@ -8,7 +8,7 @@ use native.Mathlib.Numerals.{add-one}
 use native.Mathlib.Omega.{arith}
 use borrow.Author.Tests.{ltb-true}
 use lib.Dec.{ltb, leb}
-use lib.ListN.{length, drop}
+use lib.ListN.{drop}
 use Rattle.width.specs.Width.{le}
 use Rattle.names.specs.Search.{Rising}
 use Rattle.names.proofs.Laws.{below-before}

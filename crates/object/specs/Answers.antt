@@ -4,7 +4,6 @@ use mathlib.Core.List.{List, [], _∷_}
 use Prim.Native.Nat.{ℕ, _+_}
 use denote.Ref.{RefT}
 use Rattle.part.specs.Part.{part}
-use Rattle.names.specs.Search.{Sought}
 use Rattle.rules.specs.Rules.{Answer, refuse, accept}
 use Rattle.metadata.specs.Answers as dictionary
 use Rattle.object.specs.Object.{absent}

@@ -1,6 +1,6 @@
 -- The object layer: its bytes, its checks in their order, its answers (document 01, "Object bytes" and "Answers"; VariantEncoding.md, "Value
 -- Data for Object"). d is the dictionary's bytes, o the object's, q the query; a byte that is not there reads as 0. Assumes nothing.
-use mathlib.Core.Bool.{Bool, cond, _&&_, _||_}
+use mathlib.Core.Bool.{cond, _&&_, _||_}
 use mathlib.Core.List.{List, [], _∷_, _++_}
 use Prim.Native.Nat.{ℕ, zero, suc, _+_, _-_, _*_, _/_, _%_}
 use lib.Dec.{eqb, ltb, leb}

@@ -24,7 +24,7 @@ use Rattle.object.specs.declared.Opening.the-variants as opening
 use Rattle.object.specs.declared.Search.{Search}
 use Rattle.object.specs.declared.Search.the-variants as search
 use Rattle.object.specs.declared.Place.{Place}
-use Rattle.object.specs.Object.{basicType, offsetWidth, idWidth, countWidth, count, idsStart, id, offsetsStart, offset, start, end, headRules, checks, lookup, startOf, endOf}
+use Rattle.object.specs.Object.{basicType, offsetWidth, idWidth, countWidth, count, idsStart, offsetsStart, start, end, headRules, checks, lookup, startOf, endOf}
 use Rattle.object.specs.Answers.{refusalNumber, refusalPlace}
 
 abbrev pub stopOf : Refusal → Found

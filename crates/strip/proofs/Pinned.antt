@@ -4,7 +4,7 @@ use mathlib.Core.List.{List}
 use Prim.Native.Nat.{ℕ}
 use Rattle.rules.specs.Rules.{codeOf}
 use Rattle.metadata.specs.Dictionary.{emptied, roomAfter}
-use Rattle.strip.specs.Strip.{returned, stripAfter, listAfter, listWords}
+use Rattle.strip.specs.Strip.{returned, stripAfter, listAfter}
 
 -- what every call that fills a strip promises of the words of its answer
 pub record Left (strip words : List ℕ) (code : ℕ) (after : List ℕ) : Type 0 where

@@ -1,6 +1,6 @@
 -- Document 01's starred worked cases: the definitions answer each as the document does. Assumes nothing.
 use mathlib.Core.Path.{_≡_, refl}
-use mathlib.Core.List.{List, map}
+use mathlib.Core.List.{map}
 use Rattle.width.specs.Width.{le, bytesOf}
 use Rattle.walk.specs.Walk.{upTo}
 use Rattle.utf8.specs.Utf8.{leadOf, tailsOf, char, textUpTo}

@@ -4,7 +4,7 @@ ghost use mathlib.Core.List.{[], _∷_, _++_};
 ghost use Prim.Native.Nat.{_≤_, _<_};
 ghost use lib.ListN.{length, drop};
 ghost use Rattle.rules.specs.Rules.{refuse};
-ghost use Rattle.metadata.specs.Answers.{refused as dictionaryRefused, verdictNumbers, entryNumbers, writtenNumbers};
+ghost use Rattle.metadata.specs.Answers.{refused as dictionaryRefused, verdictNumbers, entryNumbers};
 ghost use Rattle.metadata.specs.Dictionary.{emptied, roomAfter};
 ghost use Rattle.rules.specs.Rules.{codeOf};
 ghost use Rattle.object.specs.Answers.{refused as objectRefused, verdictNumbers as layerNumbers, lookupNumbers, listingNumbers};

@@ -1,11 +1,11 @@
 -- Where characters start: in a text, at each byte that is not from 80 to BF, and at no other. Assumes nothing.
-use mathlib.Core.Path.{_≡_, refl, sym, ap, _∙_}
-use mathlib.Core.List.{List, [], _∷_, _++_}
+use mathlib.Core.Path.{_≡_}
+use mathlib.Core.List.{List, _++_}
 use Prim.Native.Nat.{ℕ, zero, suc, _+_, _-_, _≤_, _<_}
 use native.Mathlib.Decide.{decLt}
 use native.Mathlib.Nat.{add-zero}
 use native.Mathlib.Omega.{arith}
-use lib.ListN.{length, take, drop, getD, length-append, length-drop, List·getD-append}
+use lib.ListN.{length, getD, length-append, length-drop, List·getD-append}
 use lib.Seq.{take-append-add, drop-append-add, getD-append-add, getD-drop}
 use Rattle.walk.specs.Walk.Items.{none, more}
 use Rattle.utf8.specs.Utf8.{Tails, Char, Text, Cont, Bound}

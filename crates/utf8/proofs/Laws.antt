@@ -1,6 +1,6 @@
 -- The functions of specs/Utf8.antt find what its table says: `char` finds the characters, and `textUpTo` is the length of the longest
 -- well-formed prefix. Assumes nothing.
-use mathlib.Core.Path.{_≡_, refl, sym, ap, _∙_}
+use mathlib.Core.Path.{_≡_, refl, sym, ap}
 use mathlib.Core.Bool.{Bool, true, false, cond, _&&_}
 use mathlib.Core.List.{List, [], _∷_, _++_}
 use Prim.Native.Nat.{ℕ, zero, suc, _+_, _≤_, _<_, _-_, zero-le, suc-le-suc}

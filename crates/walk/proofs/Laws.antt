@@ -1,5 +1,5 @@
 -- Laws of rows of items: the longest row is one, no longer one is, and decoding is unique. Assumes nothing.
-use mathlib.Core.Path.{_≡_, refl, sym, ap, _∙_}
+use mathlib.Core.Path.{_≡_, refl, sym, ap}
 use mathlib.Core.List.{List, [], _∷_, _++_, append-assoc}
 use Prim.Native.Nat.{ℕ, zero, suc, _+_, _≤_, _<_, _-_, zero-le, suc-le-suc}
 use native.Mathlib.Nat.{zero-add}

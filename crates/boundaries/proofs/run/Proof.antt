@@ -1,7 +1,6 @@
 -- `boundaries::run` is safe: it counts to the number of cases, and no more of them differ than were compared. Assumes nothing.
 use Prim.Native.Nat.{_-_, _≤_, _<_}
 use borrow.Author.Needs.{needs}
-use native.Mathlib.Omega.{arith}
 use Rattle.boundaries.proofs.run.Statement.{statement}
 use Rattle.boundaries.proofs.run.Tie as tie
 

@@ -2,7 +2,6 @@
 use Prim.Native.Nat.{_-_, _≤_}
 use borrow.Author.Needs.{needs}
 use lib.ListN.{length}
-use native.Mathlib.Omega.{arith}
 use Rattle.boundaries.proofs.write_hex.Statement.{statement}
 use Rattle.boundaries.proofs.write_hex.Tie as tie
 

@@ -1,12 +1,10 @@
 -- `metadata::get` meets its contract: the dictionary's refusal, then 31, then the span. Assumes nothing.
-use mathlib.Core.Path.{_≡_, sym, _∙_}
+use mathlib.Core.Path.{sym, _∙_}
 use Prim.Native.Nat.{_≤_, _<_}
 use native.Mathlib.Omega.{arith}
 use borrow.Author.Needs.{needs}
 use Rattle.rules.proofs.Laws.{refused, answered, stops, goes, first-at, first-pass}
 use Rattle.metadata.specs.Dictionary.{count, nameAt}
-use Rattle.metadata.specs.Steps.{CheckedOf}
-use Rattle.metadata.specs.declared.Head.the-variants.{Good}
 use Rattle.metadata.proofs.get.Statement.{statement}
 use Rattle.metadata.proofs.get.Tie as tie
 

@@ -2,7 +2,7 @@
 use mathlib.Core.Path.{_≡_, refl, sym, _∙_}
 use Prim.Native.Nat.{_≤_, _-_}
 use native.Mathlib.Omega.{arith}
-use lib.ListN.{length, drop}
+use lib.ListN.{drop}
 use Rattle.names.specs.Order.{compareOf}
 use Rattle.names.proofs.Laws.{compare-end, compare-short, compare-long, compare-below, compare-above, compare-next}
 use Rattle.names.proofs.compare.Statement.{statement}

@@ -1,8 +1,7 @@
 -- `object::check_names` meets its contract: the loop keeps that all fields before k pass, and where the last one's name stands. Assumes nothing.
-use mathlib.Core.Path.{_≡_, refl, sym, _∙_}
+use mathlib.Core.Path.{_≡_, sym, _∙_}
 use Prim.Native.Nat.{_+_, _-_, _≤_, _<_}
 use native.Mathlib.Omega.{arith}
-use borrow.Author.Needs.{needs}
 use lib.ListN.{length}
 use Rattle.part.specs.Part.{part}
 use Rattle.rules.specs.Rules.{first, each}

@@ -1,5 +1,5 @@
 -- `object::compare_field` meets its contract: the name of the field is the dictionary's at its id. Assumes nothing.
-use mathlib.Core.Path.{_≡_, refl, sym, _∙_}
+use mathlib.Core.Path.{_∙_}
 use native.Mathlib.Omega.{arith}
 use borrow.Author.Needs.{needs}
 use Rattle.object.specs.Object.{fieldName}

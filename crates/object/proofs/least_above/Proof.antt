@@ -1,8 +1,7 @@
 -- `object::least_above` meets its contract: the loop keeps the least above x of the offsets before k. Assumes nothing.
-use mathlib.Core.Path.{_≡_, refl, sym, _∙_}
+use mathlib.Core.Path.{_≡_, _∙_}
 use Prim.Native.Nat.{_+_, _-_, _≤_, _<_}
 use native.Mathlib.Omega.{arith}
-use borrow.Author.Needs.{needs}
 use Rattle.object.specs.Object.{offset, count as countOf, leastAbove}
 use Rattle.object.proofs.Laws.{count-below, nearer-within, least-none, least-more}
 use Rattle.object.proofs.least_above.Statement.{statement}

@@ -1,10 +1,9 @@
 -- `object::list` meets its contract: the refusal, or 41, or the rows. Assumes nothing.
-use mathlib.Core.Path.{_≡_, sym, _∙_}
+use mathlib.Core.Path.{sym, _∙_}
 use Prim.Native.Nat.{_*_, _≤_, _<_}
 use native.Mathlib.Omega.{arith}
 use borrow.Author.Needs.{needs}
 use lib.ListN.{length}
-use Rattle.rules.specs.Rules.{first}
 use Rattle.rules.proofs.Laws.{refused, answered, stops, goes, first-at, first-pass}
 use Rattle.metadata.specs.Limits.{u32Max}
 use Rattle.object.specs.Object.{count, listChecks, listed, wordsAfter}

@@ -1,9 +1,8 @@
 -- `object::write_rows` meets its contract: the loop keeps the rows before k, and after them the words as they were. Assumes nothing.
-use mathlib.Core.Path.{_≡_, refl, sym, _∙_}
+use mathlib.Core.Path.{_≡_, refl}
 use mathlib.Core.List.{_++_}
 use Prim.Native.Nat.{_+_, _-_, _*_, _≤_}
 use native.Mathlib.Omega.{arith}
-use borrow.Author.Needs.{needs}
 use lib.ListN.{length, drop, length-set}
 use Rattle.metadata.specs.Limits.{u32Max}
 use Rattle.object.specs.Object.{count as countOf, span, rows}

@@ -1,5 +1,5 @@
 -- `utf8::valid_len` meets its contract: the loop goes from character to character, and stops where none starts. Assumes nothing.
-use mathlib.Core.Path.{_≡_, sym, _∙_}
+use mathlib.Core.Path.{sym, _∙_}
 use Prim.Native.Nat.{_-_, _+_}
 use native.Mathlib.Omega.{arith}
 use lib.ListN.{length}

@@ -1,5 +1,5 @@
 -- `width::unpack_u32` meets its contract: each return is one step more of `unpack-more`. Assumes nothing.
-use mathlib.Core.Path.{_≡_, _∙_, ap}
+use mathlib.Core.Path.{_≡_}
 use mathlib.Core.List.{List}
 use Prim.Native.Nat.{_+_, _*_, ℕ}
 use native.Mathlib.Omega.{arith}
