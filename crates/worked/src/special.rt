@@ -1,0 +1,124 @@
+// The cases that a line of text does not say: rooms, parts, and long inputs.
+use crate::tally::Tally;
+use crate::tally::bytes;
+use crate::tally::number;
+use libc::STDOUT_FILENO;
+
+// The empty dictionary into a room: the code, the room after it, and the code of the verdict on that.
+fn empty(t: Tally, room: &mut [u8], code: usize, want: &[u8], verdict: usize) -> Tally {
+    io::write_all(STDOUT_FILENO, b"the empty dictionary into a room of ");
+    ask::say(b"", room.len());
+    let t = number(t, b"", strip::lichenhusk_empty(room) as usize, code);
+    let t = bytes(t, b"the room after it", room, want);
+    number(t, b"its verdict", ask::dictionary(room).code, verdict)
+}
+
+fn rooms(t: Tally) -> Tally {
+    let t = empty(t, &mut [9; 2], 42, b"\x09\x09", 12);
+    let t = empty(t, &mut [9; 3], 0, b"\x01\x00\x00", 0);
+    empty(t, &mut [9; 5], 0, b"\x01\x00\x00\x09\x09", 0)
+}
+
+// The child of a name in an object over D.
+fn child(t: Tally, case: &[u8], object: &[u8], name: &[u8], want: &[u8]) -> Tally {
+    bytes(
+        t,
+        case,
+        object::child(b"\x11\x02\x00\x04\x08flowroll", object, name),
+        want,
+    )
+}
+
+fn of_p(t: Tally) -> Tally {
+    let p = b"\x02\x02\x00\x01\x01\x00\x03\x04\x0C\xFB";
+    let t = child(t, b"P, the child \"flow\"", p, b"flow", b"\x0C\xFB");
+    let t = child(t, b"P, the child \"roll\"", p, b"roll", b"\x04\x0C\xFB");
+    child(t, b"P, the child \"rol\"", p, b"rol", b"")
+}
+
+// An empty child and the empty part of an absence: the lookups of data/cases tell them apart.
+fn of_empty(t: Tally) -> Tally {
+    let o = b"\x02\x01\x00\x01\x01\x00";
+    let t = child(t, b"02 01 00 01 01 00, the child \"flow\"", o, b"flow", b"");
+    let t = child(t, b"02 01 00 01 01 00, the child \"roll\"", o, b"roll", b"");
+    child(t, b"00, the child \"flow\"", b"\x00", b"flow", b"")
+}
+
+// Whether P with the byte `b` after it has P's numbers.
+fn as_p(b: u8) -> bool {
+    let p = [
+        0x02,
+        0x02,
+        0x00,
+        0x01,
+        0x01,
+        0x00,
+        0x03,
+        0x04,
+        0x0C,
+        0xFB,
+        b,
+    ];
+    let a = ask::lookup(b"\x11\x02\x00\x04\x08flowroll", &p, b"flow");
+    ask::expected::is(b"0 0 8 10 0", ask::case::Outcome::Answered(a), &[0; 1])
+}
+
+// How many bytes from 0 on may stand after P.
+fn bytes_after_p() -> usize {
+    let mut b: usize = 0;
+    while b < 256 {
+        if !as_p(b as u8) {
+            return b;
+        }
+        b += 1;
+    }
+    b
+}
+
+// 65,536 bytes are read, and one more is refused.
+fn long_dictionary(t: Tally) -> Tally {
+    let mut long = [0u8; 65537];
+    long[0] = 1;
+    let t = number(
+        t,
+        b"01 00 00 in 65537 bytes",
+        ask::dictionary(&long).code,
+        10,
+    );
+    let n: usize = 65536;
+    number(
+        t,
+        b"01 00 00 in 65536 bytes",
+        ask::dictionary(&long[0..n]).code,
+        0,
+    )
+}
+
+fn long_object(t: Tally) -> Tally {
+    let mut long = [0u8; 65537];
+    long[0] = 2;
+    let t = number(
+        t,
+        b"02 00 00 in 65537 bytes",
+        ask::layer(b"\x01\x00\x00", &long).code,
+        20,
+    );
+    let n: usize = 65536;
+    number(
+        t,
+        b"02 00 00 in 65536 bytes",
+        ask::layer(b"\x01\x00\x00", &long[0..n]).code,
+        0,
+    )
+}
+
+pub fn run(t: Tally) -> Tally {
+    let t = of_empty(of_p(rooms(t)));
+    let t = number(
+        t,
+        b"P and any byte, \"flow\" found as in P",
+        bytes_after_p(),
+        256,
+    );
+    long_object(long_dictionary(t))
+}
