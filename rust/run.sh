@@ -30,7 +30,16 @@ has_source() {
   export LICHENHUSK_RUST_SOURCE
 }
 
+# The archive of rt staticlib is for x86-64. Elsewhere its module is compiled for the processor.
+has_archive() {
+  [ "$(uname -m)" != x86_64 ] && [ -z "${LICHENHUSK_ARCHIVE:-}" ] || return 0
+  ./native_archive.sh >&2
+  LICHENHUSK_ARCHIVE=$(cd .. && pwd)/target/native/libstrip.a
+  export LICHENHUSK_ARCHIVE
+}
+
 quietly() {
+  has_archive
   cargo "$@" --quiet --locked --offline
 }
 

@@ -10,15 +10,16 @@
 //! exactly what `get` yields. The same is asked of a copy with children that the Rust accepts
 //! (see [`traced`]), which gives a verdict on the layer alone, and places.
 //!
-//! Of our own answers besides: each function gives the same refusal; a listing's spans are those
-//! of its starts; words after a listing, and all words under a refusal, stay.
+//! Of our own answers besides: each function gives the same refusal; an accepted layer's numbers
+//! are those of its header; a listing's spans are those of its starts; words after a listing, and
+//! all words under a refusal, stay.
 
 use crate::original::{
     DICTIONARY_REASONS, may_be_object_number, place_in, same_value, told, traced, traced_start,
     words,
 };
 use crate::ours::{Reader, absent, accepted, refused};
-use crate::reading::DictionaryParts;
+use crate::reading::{DictionaryParts, ObjectParts};
 use crate::tally::Tally;
 use crate::{Input, hex};
 use lichenhusk::{Field, LIMIT, OK, Strip, WORDS_PER_FIELD};
@@ -104,6 +105,7 @@ fn dictionary_verdict<'d>(
 ) -> Compared<Option<VariantMetadata<'d>>> {
     if dict.len() > LIMIT {
         agree("a dictionary over the limit", ours, refused(10, 0))?;
+        agree("a name of a refused dictionary", reader.name(dict, 0), ours)?;
         tally.over_limit += 1;
         return Ok(None);
     }
@@ -119,7 +121,7 @@ fn dictionary_verdict<'d>(
             if told(DICTIONARY_REASONS, &error) != Some(ours.code) {
                 return differ("a dictionary's verdict", ours, error);
             }
-            agree("a refusal's place", ours, refused(ours.code, ours.place))?;
+            agree("a refusal's words", ours, refused(ours.code, ours.place))?;
             dictionary_place(dict, ours, words(&error))?;
             agree("a name of a refused dictionary", reader.name(dict, 0), ours)?;
             Tally::refuse(&mut tally.dictionaries_refused, ours.code);
@@ -129,7 +131,7 @@ fn dictionary_verdict<'d>(
 }
 
 /// Compares a refusal's place, where the Rust or its library can tell it.
-fn dictionary_place(dict: &[u8], ours: Strip, told: &str) -> Compared {
+fn dictionary_place(dict: &[u8], ours: Strip, theirs: &str) -> Compared {
     let place = ours.place as usize;
     let parts = || DictionaryParts::of(dict).expect("a count, since it is not short");
     match ours.code {
@@ -147,10 +149,10 @@ fn dictionary_place(dict: &[u8], ours: Strip, told: &str) -> Compared {
                 (Some(start), Some(end)) => format!("range {start}..{end} "),
                 _ => "an entry".to_string(),
             };
-            if told.contains(&range) {
+            if theirs.contains(&range) {
                 return Ok(());
             }
-            differ("the entry of bad offsets", ours, told)
+            differ("the entry of bad offsets", ours, theirs)
         }
         _ => Ok(()),
     }
@@ -281,12 +283,28 @@ impl<'d, R: Reader> Pair<'_, 'd, R> {
     }
 
     fn accepted(&self, query: Option<&[u8]>, tally: &mut Tally) -> Compared {
+        self.numbers()?;
         let fields = self.listed()?;
-        let queries = self.queries(&fields, query);
-        self.whole(&fields, &queries, tally)?;
-        self.alone(&fields, &queries, tally)?;
-        tally.fields += fields.len() as u64;
+        let lookups = self.lookups(&fields, query);
+        let whole = self.whole(&fields, &lookups, tally)?;
+        let alone = self.alone(&fields, &lookups, tally)?;
+        if whole || alone {
+            tally.fields += fields.len() as u64;
+            lookups.iter().for_each(|lookup| lookup.count(tally));
+        }
         Ok(())
+    }
+
+    /// The numbers of an accepted layer are those of its parts.
+    fn numbers(&self) -> Compared {
+        let parts = ObjectParts::of(self.bytes);
+        let region = parts.and_then(|parts| Some((parts, parts.region(self.bytes)?)));
+        let Some((parts, region)) = region else {
+            return differ("a layer that is cut", self.layer, "no parts");
+        };
+        let start = parts.offsets.end();
+        let numbers = accepted(parts.ids.count, start, start + region.len());
+        agree("a layer's numbers", self.layer, numbers)
     }
 
     /// Our listing, after a look at what it may not touch.
@@ -325,8 +343,8 @@ impl<'d, R: Reader> Pair<'_, 'd, R> {
         Ok(())
     }
 
-    /// Names to look for: the fields', others of the dictionary, and names near these.
-    fn queries(&self, fields: &[Field], query: Option<&[u8]>) -> Vec<Vec<u8>> {
+    /// Our lookups: of the fields' names, of others of the dictionary, and of names near these.
+    fn lookups(&self, fields: &[Field], query: Option<&[u8]>) -> Vec<Lookup> {
         let name = |entry: usize| self.metadata.get(entry).unwrap_or_default().as_bytes();
         let mut queries: Vec<Vec<u8>> = vec![b"".to_vec(), b"\xFF".to_vec()];
         queries.extend(query.map(<[u8]>::to_vec));
@@ -337,39 +355,37 @@ impl<'d, R: Reader> Pair<'_, 'd, R> {
             queries.push(name[..name.len().saturating_sub(1)].to_vec());
         }
         queries.extend(some_of(self.metadata.len()).map(|entry| name(entry).to_vec()));
-        queries
+        let ask = |query: Vec<u8>| Lookup {
+            ours: self.reader.lookup(self.dict, self.bytes, &query),
+            query,
+        };
+        queries.into_iter().map(ask).collect()
     }
 
     /// The object as it is: accepted exactly when each child is, and then the same throughout.
-    fn whole(&self, fields: &[Field], queries: &[Vec<u8>], tally: &mut Tally) -> Compared {
+    /// True if it is accepted.
+    fn whole(&self, fields: &[Field], lookups: &[Lookup], tally: &mut Tally) -> Compared<bool> {
         let end = self.layer.end as usize;
         let children = fields.iter().all(|field| self.value(field.start).is_some());
         let theirs = self.theirs(self.bytes);
         if theirs.is_ok() != children {
-            let ours = format!(
-                "{:?}, children accepted by the Rust: {children}",
-                self.layer
-            );
-            return differ("an object's verdict", ours, theirs.map(|_| "accepts"));
+            let asked = format!("an object whose children the Rust accepts: {children}");
+            return differ(&asked, self.layer, theirs.map(|_| "accepts"));
         }
         let Ok(theirs) = theirs else {
             tally.child_refused += 1;
             tally.child_empty += u64::from(fields.iter().any(|field| field.start == end));
-            return Ok(());
+            return Ok(false);
         };
         agree("the trimmed end", end, theirs.value.len())?;
-        self.fields(&theirs, fields, |value, start| {
-            self.value(start)
-                .is_some_and(|ours| same_value(value, &ours))
-        })?;
-        for query in queries {
-            self.lookup(&theirs, query, tally, |value, start| {
-                self.value(start)
-                    .is_some_and(|ours| same_value(value, &ours))
-            })?;
-        }
+        let is_at = |value: &Variant, start: usize| {
+            let ours = self.value(start);
+            ours.is_some_and(|ours| same_value(value, &ours))
+        };
+        self.fields(&theirs, fields, is_at)?;
+        self.gets(&theirs, lookups, is_at)?;
         tally.objects += 1;
-        Ok(())
+        Ok(true)
     }
 
     /// The value that the Rust reads from a place of ours to the trimmed end.
@@ -378,10 +394,11 @@ impl<'d, R: Reader> Pair<'_, 'd, R> {
         Variant::try_new_with_metadata(self.metadata.clone(), child).ok()
     }
 
-    /// The layer alone, by a copy with children that tell where they are.
-    fn alone(&self, fields: &[Field], queries: &[Vec<u8>], tally: &mut Tally) -> Compared {
+    /// The layer alone, by a copy with children that tell where they are. True if there can be
+    /// such a copy.
+    fn alone(&self, fields: &[Field], lookups: &[Lookup], tally: &mut Tally) -> Compared<bool> {
         let Some(copy) = traced(self.bytes) else {
-            return Ok(());
+            return Ok(false);
         };
         let theirs = match self.theirs(&copy) {
             Ok(theirs) => theirs,
@@ -389,16 +406,11 @@ impl<'d, R: Reader> Pair<'_, 'd, R> {
         };
         let end = theirs.value.len() - 1;
         agree("the trimmed end", self.layer.end as usize, end)?;
-        self.fields(&theirs, fields, |value, start| {
-            traced_start(value, &copy) == Some(start)
-        })?;
-        for query in queries {
-            self.lookup(&theirs, query, tally, |value, start| {
-                traced_start(value, &copy) == Some(start)
-            })?;
-        }
+        let is_at = |value: &Variant, start: usize| traced_start(value, &copy) == Some(start);
+        self.fields(&theirs, fields, is_at)?;
+        self.gets(&theirs, lookups, is_at)?;
         tally.traced += 1;
-        Ok(())
+        Ok(true)
     }
 
     /// Names in field order by our listing, and each field's value by its start.
@@ -408,7 +420,7 @@ impl<'d, R: Reader> Pair<'_, 'd, R> {
         fields: &[Field],
         is_at: impl Fn(&Variant, usize) -> bool,
     ) -> Compared {
-        agree("the field count", self.layer.number as usize, theirs.len())?;
+        agree("the field count", fields.len(), theirs.len())?;
         for (index, field) in fields.iter().enumerate() {
             let ours = self.metadata.get(field.id as usize).ok();
             let name = theirs.field_name(index);
@@ -424,30 +436,45 @@ impl<'d, R: Reader> Pair<'_, 'd, R> {
     }
 
     /// A lookup finds what `get` yields, and nothing exactly where that is nothing.
-    fn lookup(
+    fn gets(
         &self,
         theirs: &VariantObject,
-        query: &[u8],
-        tally: &mut Tally,
+        lookups: &[Lookup],
         is_at: impl Fn(&Variant, usize) -> bool,
     ) -> Compared {
-        let ours = self.reader.lookup(self.dict, self.bytes, query);
-        let asked = format!("the field {}", hex(query));
-        let Ok(text) = std::str::from_utf8(query) else {
-            tally.not_text += 1;
-            return agree(&asked, ours, absent());
-        };
-        let Some(value) = theirs.get(text) else {
-            tally.absent += 1;
-            return agree(&asked, ours, absent());
-        };
-        let (field, start) = (ours.number as usize, ours.start as usize);
-        let found = accepted(field, start, self.layer.end as usize);
-        let named = theirs.field_name(field) == Some(text);
-        if ours != found || !named || !is_at(&value, start) {
-            return differ(&asked, ours, value);
+        for Lookup { query, ours } in lookups {
+            let (field, start) = (ours.number as usize, ours.start as usize);
+            let text = std::str::from_utf8(query).ok();
+            let value = text.and_then(|text| theirs.get(text));
+            let agrees = match &value {
+                None => *ours == absent(),
+                Some(value) => {
+                    *ours == accepted(field, start, self.layer.end as usize)
+                        && theirs.field_name(field) == text
+                        && is_at(value, start)
+                }
+            };
+            if !agrees {
+                return differ(&format!("the field {}", hex(query)), ours, value);
+            }
         }
-        tally.found += 1;
         Ok(())
+    }
+}
+
+/// A name, and our answer to it.
+struct Lookup {
+    query: Vec<u8>,
+    ours: Strip,
+}
+
+impl Lookup {
+    /// Counts a lookup that agrees.
+    fn count(&self, tally: &mut Tally) {
+        match (self.ours.code, std::str::from_utf8(&self.query)) {
+            (OK, _) => tally.found += 1,
+            (_, Ok(_)) => tally.absent += 1,
+            (_, Err(_)) => tally.not_text += 1,
+        }
     }
 }

@@ -22,6 +22,10 @@ pub enum Fault {
     UntrimmedDictionary,
     /// Does not trim an object's end.
     UntrimmedObject,
+    /// Says of the region that it starts with the object.
+    NoRegion,
+    /// Says a field more than there is.
+    OneFieldMore,
     /// Takes the entry count from the header byte.
     CountFromHeader,
     /// Takes every entry number.
@@ -65,7 +69,7 @@ pub enum Fault {
 }
 
 /// Every fault.
-pub const ALL: [Fault; 28] = [
+pub const ALL: [Fault; 30] = [
     Fault::AlwaysShort,
     Fault::AbsentIsFound,
     Fault::AlwaysAbsent,
@@ -74,6 +78,8 @@ pub const ALL: [Fault; 28] = [
     Fault::EndsAtNextOffset,
     Fault::UntrimmedDictionary,
     Fault::UntrimmedObject,
+    Fault::NoRegion,
+    Fault::OneFieldMore,
     Fault::CountFromHeader,
     Fault::AnyEntry,
     Fault::CutsNames,
@@ -145,10 +151,12 @@ impl<R: Reader> Faulty<R> {
         if strip.code != OK {
             return self.wrong(strip);
         }
+        let (fields, region) = (strip.number as usize, strip.start as usize);
+        let end = strip.end as usize;
         match self.fault {
-            Fault::UntrimmedObject => {
-                accepted(strip.number as usize, strip.start as usize, object.len())
-            }
+            Fault::UntrimmedObject => accepted(fields, region, object.len()),
+            Fault::NoRegion => accepted(fields, 0, end),
+            Fault::OneFieldMore => accepted(fields + 1, region, end),
             Fault::NoSharedChildren => {
                 let mut starts = self.starts(dict, object);
                 starts.sort_unstable();

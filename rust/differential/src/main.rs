@@ -1,6 +1,6 @@
 //! The command: `differential short`, `differential long` or `differential replay LINES`.
 
-use differential::faults::{ALL, Faulty};
+use differential::faults::{ALL, Fault, Faulty};
 use differential::ours::Archive;
 use differential::replay;
 use differential::run::{Outcome, Settings, run};
@@ -13,34 +13,62 @@ usage: differential short [--seed N]
        differential long [--seed N] [--inputs N] [--minutes N]
        differential replay LINES [--seed N]";
 
-const SEED: u64 = 60;
-
 fn main() -> ExitCode {
-    let words: Vec<String> = args().skip(1).collect();
     // A panic of either side is caught and told as a disagreement.
     std::panic::set_hook(Box::new(|_| {}));
-    match words.first().map(String::as_str) {
-        Some("short") => compare(&words, short()),
-        Some("long") => compare(&words, long(&words)),
-        Some("replay") => emit(&words),
-        _ => usage(),
+    let words: Vec<String> = args().skip(1).collect();
+    let words: Vec<&str> = words.iter().map(String::as_str).collect();
+    let done = match words[..] {
+        ["short", ref options @ ..] => {
+            read(options).map(|options| compare(short(&options), &options))
+        }
+        ["long", ref options @ ..] => read(options).map(|options| long_run(&options)),
+        ["replay", lines, ref options @ ..] => emit(lines, options),
+        _ => None,
+    };
+    done.unwrap_or_else(|| {
+        eprintln!("{USAGE}");
+        ExitCode::from(2)
+    })
+}
+
+/// What the command line can set.
+struct Options {
+    seed: u64,
+    inputs: u64,
+    minutes: u64,
+    /// A wrong reader in our place, not in the usage: to see that a disagreement is told.
+    fault: Option<Fault>,
+}
+
+/// The options of pairs of words; nothing if one is not known.
+fn read(words: &[&str]) -> Option<Options> {
+    let mut options = Options {
+        seed: replay::SEED,
+        inputs: 5_000_000,
+        minutes: 60,
+        fault: None,
+    };
+    for pair in words.chunks(2) {
+        let [name, value] = pair else { return None };
+        match *name {
+            "--seed" => options.seed = value.parse().ok()?,
+            "--inputs" => options.inputs = value.parse().ok()?,
+            "--minutes" => options.minutes = value.parse().ok()?,
+            "--fault" => options.fault = Some(fault(value)?),
+            _ => return None,
+        }
     }
+    Some(options)
 }
 
-fn usage() -> ExitCode {
-    eprintln!("{USAGE}");
-    ExitCode::from(2)
+fn fault(name: &str) -> Option<Fault> {
+    ALL.into_iter().find(|fault| format!("{fault:?}") == name)
 }
 
-/// The number that follows a word of the command line.
-fn option(words: &[String], name: &str) -> Option<u64> {
-    let at = words.iter().position(|word| word == name)?;
-    words.get(at + 1)?.parse().ok()
-}
-
-fn short() -> Settings {
+fn short(options: &Options) -> Settings {
     Settings {
-        seed: SEED,
+        seed: options.seed,
         generated: 300_000,
         every: 3,
         telling: 7,
@@ -48,54 +76,53 @@ fn short() -> Settings {
     }
 }
 
-fn long(words: &[String]) -> Settings {
-    let minutes = option(words, "--minutes").unwrap_or(60);
+fn long(options: &Options) -> Settings {
     Settings {
-        seed: SEED,
-        generated: option(words, "--inputs").unwrap_or(5_000_000),
+        seed: options.seed,
+        generated: options.inputs,
         every: 3,
         telling: 8,
-        limit: Duration::from_secs(60 * minutes),
+        limit: Duration::from_secs(60 * options.minutes),
     }
 }
 
-fn compare(words: &[String], mut settings: Settings) -> ExitCode {
-    settings.seed = option(words, "--seed").unwrap_or(settings.seed);
+fn compared(settings: Settings, options: &Options) -> Outcome {
     println!("seed {}", settings.seed);
-    let outcome = match fault(words) {
+    let outcome = match options.fault {
         None => run(&Archive, settings),
-        Some(faulty) => run(&faulty, settings),
+        Some(fault) => run(
+            &Faulty {
+                reader: Archive,
+                fault,
+            },
+            settings,
+        ),
     };
     print!("{outcome}");
-    verdict(&words[0], &outcome)
+    outcome
 }
 
-/// A wrong reader, by a flag that is not in the usage: to see that a disagreement is told.
-fn fault(words: &[String]) -> Option<Faulty<Archive>> {
-    let at = words.iter().position(|word| word == "--fault")?;
-    let name = words.get(at + 1)?;
-    let fault = ALL.into_iter().find(|fault| format!("{fault:?}") == *name);
-    fault.map(|fault| Faulty {
-        reader: Archive,
-        fault,
-    })
-}
-
-/// A disagreement fails; so does a long run that did not come to its end.
-fn verdict(mode: &str, outcome: &Outcome) -> ExitCode {
-    if outcome.disagreement.is_some() || (mode == "long" && outcome.cut) {
-        return ExitCode::FAILURE;
+/// Fails on a disagreement.
+fn compare(settings: Settings, options: &Options) -> ExitCode {
+    match compared(settings, options).disagreement {
+        None => ExitCode::SUCCESS,
+        Some(_) => ExitCode::FAILURE,
     }
-    ExitCode::SUCCESS
 }
 
-fn emit(words: &[String]) -> ExitCode {
-    let Some(most) = words.get(1).and_then(|word| word.parse().ok()) else {
-        return usage();
-    };
-    let seed = option(words, "--seed").unwrap_or(SEED);
-    for line in replay::lines(seed, most) {
+/// Fails on a disagreement, and where the time did not do for all inputs.
+fn long_run(options: &Options) -> ExitCode {
+    let outcome = compared(long(options), options);
+    match outcome.disagreement.is_none() && !outcome.cut {
+        true => ExitCode::SUCCESS,
+        false => ExitCode::FAILURE,
+    }
+}
+
+fn emit(lines: &str, options: &[&str]) -> Option<ExitCode> {
+    let (most, options) = (lines.parse().ok()?, read(options)?);
+    for line in replay::lines(options.seed, most) {
         println!("{line}");
     }
-    ExitCode::SUCCESS
+    Some(ExitCode::SUCCESS)
 }

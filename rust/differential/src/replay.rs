@@ -14,6 +14,9 @@ use lichenhusk::LIMIT;
 use parquet_variant::{VariantMetadata, VariantObject};
 use std::collections::{BTreeMap, BTreeSet};
 
+/// The seed where none is given.
+pub const SEED: u64 = 60;
+
 /// The longest line that is taken.
 const LONGEST: usize = 130;
 

@@ -70,7 +70,8 @@ fn absent_as_found() {
     let (input, found) = told(Fault::AbsentIsFound);
     assert_eq!(input.dict, [1, 0, 0], "a dictionary of no names");
     assert_eq!(input.object, Some(vec![2, 0, 0]), "an object of no fields");
-    assert!(found.theirs.contains("code: 1"), "{found}");
+    assert_eq!(found.asked, "the field -", "the empty name");
+    assert_eq!(found.theirs, "None");
 }
 
 /// A panic is a disagreement, not the end of the run.
@@ -112,6 +113,27 @@ fn the_command_fails() {
     assert!(text.contains("DISAGREEMENT"), "{text}");
     assert!(text.contains("smallest input found"), "{text}");
     assert!(!text.contains("no disagreement"), "{text}");
+}
+
+/// What is not understood is not run.
+#[test]
+fn the_command_refuses_other_words() {
+    for words in [
+        &[][..],
+        &["shorter"],
+        &["short", "--seed"],
+        &["short", "--seed", "x"],
+        &["short", "--fault", "None"],
+        &["replay"],
+        &["replay", "many"],
+    ] {
+        let output = Command::new(env!("CARGO_BIN_EXE_differential"))
+            .args(words)
+            .output()
+            .expect("the command runs");
+        assert_eq!(output.status.code(), Some(2), "{words:?}");
+        assert!(output.stdout.is_empty(), "{words:?}");
+    }
 }
 
 /// The inputs about the limit have the lengths that they are for, on both sides of it.

@@ -1,0 +1,148 @@
+//! Where the two sides differ, or the Rust differs from its own documentation: each with a small
+//! input. These are known, and outside of what is compared.
+
+use differential::encode::{ObjectShape, object as object_of, plain_object};
+use differential::exhaustive::{all_bytes, each};
+use differential::fixed::SORTED;
+use lichenhusk::Refusal;
+use parquet_variant::{MAX_NESTING_DEPTH, VariantMetadata, VariantObject};
+use std::panic::catch_unwind;
+use std::time::{Duration, Instant};
+
+fn rust_accepts(dict: &[u8], object: &[u8]) -> bool {
+    let metadata = VariantMetadata::try_new(dict);
+    metadata.is_ok_and(|metadata| VariantObject::try_new(metadata, object).is_ok())
+}
+
+/// 22: the Rust's object does not look at the basic type. No shorter value shows it.
+#[test]
+fn other_basic_types() {
+    for object in [[0, 0, 0], [1, 0, 0], [3, 0, 0]] {
+        assert!(rust_accepts(SORTED, &object));
+        assert_eq!(lichenhusk::layer(SORTED, &object), Err(Refusal::ObjectType));
+    }
+    for length in 0..3 {
+        each(length, &all_bytes(), &all_bytes(), |object| {
+            assert!(!rust_accepts(SORTED, object), "{object:?}");
+            Ok::<(), ()>(())
+        })
+        .unwrap();
+    }
+}
+
+/// A child of no bytes: ours alone. A field takes five bytes, so no shorter object shows it.
+#[test]
+fn empty_children() {
+    for object in [&[2, 1, 0, 0, 0][..], &[2, 1, 0, 1, 1, 0]] {
+        assert!(!rust_accepts(SORTED, object));
+        assert_eq!(
+            lichenhusk::child(SORTED, object, b"flow"),
+            Ok(Some(&[][..]))
+        );
+    }
+}
+
+/// 10 and 20: the Rust has no limit of length.
+#[test]
+fn long_buffers() {
+    let padded = |bytes: &[u8]| [bytes, &vec![0; 65_537 - bytes.len()]].concat();
+    let (dict, object) = (padded(SORTED), padded(&[2, 0, 0]));
+    assert!(rust_accepts(&dict, &object));
+    assert_eq!(
+        lichenhusk::dictionary(&dict),
+        Err(Refusal::DictionaryTooLong)
+    );
+    assert_eq!(
+        lichenhusk::layer(SORTED, &object),
+        Err(Refusal::ObjectTooLong)
+    );
+}
+
+/// So many objects in one another about a null.
+fn nested(depth: usize) -> Vec<u8> {
+    let mut value = vec![0];
+    for _ in 0..depth {
+        value = plain_object(&[0], &[value]);
+    }
+    value
+}
+
+/// The Rust goes 128 deep; our layer does not go into the children.
+#[test]
+fn nesting() {
+    assert_eq!(MAX_NESTING_DEPTH, 128);
+    assert!(rust_accepts(SORTED, &nested(128)));
+    assert!(!rust_accepts(SORTED, &nested(129)));
+    assert!(lichenhusk::layer(SORTED, &nested(129)).is_ok());
+}
+
+/// Documented as free of panics on what was not validated, `get` panics all the same.
+#[test]
+fn get_panics() {
+    for (why, object) in [
+        ("an id of no entry", [2, 1, 2, 0, 0]),
+        ("an offset past the region", [2, 1, 0, 1, 0]),
+        ("a child of no bytes", [2, 1, 0, 0, 0]),
+    ] {
+        let get = move || {
+            let object = VariantObject::new(VariantMetadata::new(SORTED), &object);
+            object.get("flow").is_some()
+        };
+        assert!(catch_unwind(get).is_err(), "{why}");
+    }
+}
+
+/// Documented to panic past the last field, `field` yields nothing.
+#[test]
+fn field_past_the_last() {
+    let metadata = VariantMetadata::try_new(SORTED).unwrap();
+    let object = VariantObject::try_new(metadata, &[2, 0, 0]).unwrap();
+    assert_eq!(object.field(0), None);
+    assert_eq!(object.field_name(0), None);
+}
+
+/// Thirty-two fields that share one child, in one another so deep.
+fn shared(names: &[Vec<u8>], depth: usize) -> Vec<u8> {
+    let ids: Vec<usize> = (0..names.len()).collect();
+    let shape = ObjectShape {
+        id_width: 1,
+        offset_width: 2,
+        long_count: false,
+        spare: false,
+    };
+    let mut value = vec![0];
+    for _ in 0..depth {
+        let mut offsets = vec![0; names.len()];
+        offsets.push(value.len());
+        value = object_of(&ids, &offsets, &value, shape);
+    }
+    value
+}
+
+/// Documented as linear in the bytes, the Rust's validation grows with the power of the depth
+/// where children are shared.
+#[test]
+fn validation_is_not_linear() {
+    let names: Vec<Vec<u8>> = (0..32).map(|n| vec![b'A' + n]).collect();
+    let shape = differential::encode::DictionaryShape {
+        width: 1,
+        sorted: true,
+        spare: false,
+    };
+    let dict = differential::encode::dictionary(&names, shape);
+    let time = |depth| {
+        let object = shared(&names, depth);
+        let run = |_| {
+            let started = Instant::now();
+            assert!(rust_accepts(&dict, &object));
+            started.elapsed()
+        };
+        (
+            object.len(),
+            (0..5).map(run).min().unwrap_or(Duration::ZERO),
+        )
+    };
+    let ((short, quick), (long, slow)) = (time(2), time(3));
+    assert!(long < 2 * short, "{long} and {short} bytes");
+    assert!(slow > 8 * quick, "{slow:?} and {quick:?}");
+}
