@@ -1,0 +1,31 @@
+-- `replay::run` is safe and ends: each turn takes a line. Assumes nothing.
+use Prim.Native.Nat.{_-_, _≤_}
+use borrow.Author.Needs.{needs}
+use lib.ListN.{length}
+use Rattle.replay.proofs.run.Statement.{statement}
+use Rattle.replay.proofs.run.Tie as tie
+
+abbrev Inv-loop : tie.InvT-loop
+Inv-loop text t₀ at₀ t at = at ≤ length text
+
+abbrev μ-loop : tie.MeasureT-loop
+μ-loop text t₀ at₀ t at = length text - at
+
+pub run-spec : {M : Type 1} → statement M
+run-spec =
+    tie.close
+    (tie.spec
+    Inv-loop
+    μ-loop
+    (λ c. search needs)  -- loop-holds
+    (λ c κs. search needs)  -- find-requires
+    (λ c. search needs)  -- sub-judge
+    (λ c. search needs)  -- part-judge-start
+    (λ c. search needs)  -- part-judge-end
+    (λ c κs. search needs)  -- judge-requires
+    (λ c. search needs)  -- add-at
+    (λ c. search needs)  -- loop-less
+    (λ c. search needs)  -- loop-again
+    (λ c. search needs)  -- loop-less-2
+    (λ c. search needs)  -- loop-again-2
+    (λ c. search needs))  -- returns
