@@ -1,5 +1,5 @@
-//! Inputs that are the same in every run: document 01's, those at the limits of length, and
-//! values nested as deep as the domain goes.
+//! Inputs that are the same in every run: document 01's, those of many entries and fields, those
+//! at the limits of length, and values nested as deep as the domain goes.
 
 use crate::Input;
 use crate::encode::{self, DictionaryShape, ObjectShape};
@@ -18,6 +18,7 @@ pub const OBJECT: &[u8] = b"\x02\x02\x00\x01\x01\x00\x03\x04\x0C\xFB";
 /// All of them.
 pub fn inputs() -> Vec<Input> {
     let mut all = worked();
+    all.extend(many());
     all.extend(long_dictionaries());
     all.extend(long_objects());
     all.extend(nested());
@@ -68,6 +69,38 @@ fn worked() -> Vec<Input> {
         }));
     }
     all
+}
+
+/// Dictionaries and objects of 257 entries and fields, sorted and unsorted, whose numbers take
+/// two bytes and whose count takes four. The children are shared.
+fn many() -> Vec<Input> {
+    let mut names: Vec<Vec<u8>> = (0..257).map(|n| format!("{n:X}").into_bytes()).collect();
+    let unsorted = many_of(&names, false);
+    names.sort();
+    vec![many_of(&names, true), unsorted]
+}
+
+fn many_of(names: &[Vec<u8>], sorted: bool) -> Input {
+    let mut ids: Vec<usize> = (0..names.len()).collect();
+    ids.sort_by_key(|&id| &names[id]);
+    let mut offsets: Vec<usize> = ids.iter().map(|id| id % 3).collect();
+    offsets.push(3);
+    let object_shape = ObjectShape {
+        id_width: 2,
+        offset_width: 1,
+        long_count: true,
+        spare: false,
+    };
+    Input {
+        dict: encode::dictionary(names, shape(2, sorted)),
+        object: Some(encode::object(
+            &ids,
+            &offsets,
+            &[0x00, 0x04, 0x08],
+            object_shape,
+        )),
+        query: names.last().cloned(),
+    }
 }
 
 /// The lengths about the limit.

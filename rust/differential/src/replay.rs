@@ -1,7 +1,7 @@
 //! Answers of the Rust's, written down to be asked again where it is not at hand.
 //!
-//! A line is a case as `variant batch` reads it, then ` => ` and what the Rust answers; the
-//! format is in rust/README.md. Nothing of our side goes into a line.
+//! A line is a case as `variant batch` reads it, then ` => ` and what the Rust says; the format is
+//! in rust/README.md. Nothing of our side goes into a line.
 
 use crate::damage::damaged;
 use crate::fixed;
@@ -13,9 +13,13 @@ use crate::{Input, hex};
 use lichenhusk::LIMIT;
 use parquet_variant::{VariantMetadata, VariantObject};
 use std::collections::{BTreeMap, BTreeSet};
+use std::fmt;
 
 /// The seed where none is given.
 pub const SEED: u64 = 60;
+
+/// How many lines the repository keeps.
+pub const KEPT: usize = 3_000;
 
 /// The longest line that is taken.
 const LONGEST: usize = 130;
@@ -70,22 +74,61 @@ impl Chosen {
         self.lines.len() < self.most && self.bytes + LONGEST < MOST_BYTES
     }
 
-    /// Takes an input's lines whose class has fewer than so many.
+    /// Takes an input's lines that are not too long, and whose class has fewer than so many.
     fn take(&mut self, input: &Input, each: usize) {
-        if 2 * input.size() > LONGEST {
+        if input.size() > LONGEST / 2 {
             return;
         }
         for answer in answers(input) {
             let line = answer.line();
-            if !self.has_room() || line.len() > LONGEST || self.lines.contains(&line) {
-                continue;
+            if self.has_room() && line.len() <= LONGEST && !self.lines.contains(&line) {
+                self.count(line, answer.class(input), each);
             }
-            let count = self.classes.entry(answer.class(input)).or_default();
-            if *count < each {
-                *count += 1;
-                self.bytes += line.len() + 1;
-                self.lines.insert(line);
+        }
+    }
+
+    fn count(&mut self, line: String, class: String, each: usize) {
+        let count = self.classes.entry(class).or_default();
+        if *count < each {
+            *count += 1;
+            self.bytes += line.len() + 1;
+            self.lines.insert(line);
+        }
+    }
+}
+
+/// What the Rust says to a case.
+#[derive(Clone, Copy, Debug, PartialEq, Eq)]
+enum Says {
+    /// A dictionary: entry count and trimmed end.
+    Dictionary(usize, usize),
+    /// A name: start and end.
+    Name(usize, usize),
+    /// An object: field count and trimmed end.
+    Layer(usize, usize),
+    /// The same of an object of which the Rust refuses a child, by what it says to the object with
+    /// other children.
+    Child(usize, usize),
+    /// A field of an object: which, and start and end of its child.
+    Found(usize, usize, usize),
+    /// Nothing of that name.
+    Absent,
+    /// Refused, by our number if the Rust's words tell it.
+    Refused(Option<u32>),
+}
+
+impl fmt::Display for Says {
+    fn fmt(&self, to: &mut fmt::Formatter<'_>) -> fmt::Result {
+        match self {
+            Says::Dictionary(count, end) | Says::Layer(count, end) => {
+                write!(to, "accepts {count} {end}")
             }
+            Says::Name(start, end) => write!(to, "at {start} {end}"),
+            Says::Child(count, end) => write!(to, "child {count} {end}"),
+            Says::Found(field, start, end) => write!(to, "found {field} {start} {end}"),
+            Says::Absent => write!(to, "absent"),
+            Says::Refused(Some(number)) => write!(to, "refuses {number}"),
+            Says::Refused(None) => write!(to, "refuses -"),
         }
     }
 }
@@ -93,7 +136,7 @@ impl Chosen {
 /// A case and what the Rust says to it.
 struct Answer {
     case: String,
-    says: String,
+    says: Says,
 }
 
 impl Answer {
@@ -101,25 +144,31 @@ impl Answer {
         format!("{} => {}", self.case, self.says)
     }
 
-    /// What is asked, the answer's word or a refusal's number, and the shapes by the headers of
-    /// what was read.
+    /// What is asked, what is answered, and the shapes by the headers of what was read.
     fn class(&self, input: &Input) -> String {
-        let kind = self.case.split(' ').next().unwrap_or_default();
-        let says = match self.says.starts_with("refuses") {
-            true => &self.says,
-            false => self.says.split(' ').next().unwrap_or_default(),
-        };
-        let of_dictionary = says.starts_with("refuses 1");
-        let (dict_bits, object_bits) = match kind {
-            "dictionary" => (WIDTH | SORTED, 0),
-            _ if of_dictionary => (0, 0),
-            "name" => (WIDTH | SORTED, 0),
+        let (dict_bits, object_bits) = match (self.kind(), self.says) {
+            ("dictionary", _) => (WIDTH | SORTED, 0),
+            (_, Says::Refused(Some(10..=18))) => (0, 0),
+            ("name", _) => (WIDTH | SORTED, 0),
             _ => (SORTED, OBJECT_SHAPE),
         };
         let header = |bytes: &[u8], kept: u8| bytes.first().map(|byte| byte & kept);
         let dict = header(&input.dict, dict_bits);
         let object = header(input.object.as_deref().unwrap_or_default(), object_bits);
-        format!("{kind} {says} {dict:?} {object:?}")
+        format!("{} {} {dict:?} {object:?}", self.kind(), self.answered())
+    }
+
+    fn kind(&self) -> &str {
+        self.case.split(' ').next().unwrap_or_default()
+    }
+
+    /// The case of the answer, with the number if it is a refusal.
+    fn answered(&self) -> String {
+        let whole = format!("{:?}", self.says);
+        match self.says {
+            Says::Refused(_) => whole,
+            _ => whole.split('(').next().unwrap_or_default().to_string(),
+        }
     }
 }
 
@@ -162,59 +211,47 @@ fn answers(input: &Input) -> Vec<Answer> {
     all
 }
 
-fn dictionary(dict: &[u8]) -> String {
+fn dictionary(dict: &[u8]) -> Says {
     match VariantMetadata::try_new(dict) {
-        Ok(metadata) => format!("accepts {} {}", metadata.len(), metadata.size()),
-        Err(error) => refuses(told(DICTIONARY_REASONS, &error)),
+        Ok(metadata) => Says::Dictionary(metadata.len(), metadata.size()),
+        Err(error) => Says::Refused(told(DICTIONARY_REASONS, &error)),
     }
 }
 
-fn refuses(number: Option<u32>) -> String {
-    match number {
-        Some(number) => format!("refuses {number}"),
-        None => "refuses -".to_string(),
-    }
-}
-
-fn name(dict: &[u8], entry: usize) -> String {
+fn name(dict: &[u8], entry: usize) -> Says {
     let metadata = match VariantMetadata::try_new(dict) {
         Ok(metadata) => metadata,
-        Err(error) => return refuses(told(DICTIONARY_REASONS, &error)),
+        Err(error) => return Says::Refused(told(DICTIONARY_REASONS, &error)),
     };
     match metadata.get(entry) {
         Ok(name) => {
             let start = place_in(name.as_bytes(), dict);
-            format!("at {start} {}", start + name.len())
+            Says::Name(start, start + name.len())
         }
-        Err(_) => refuses(Some(31)),
+        Err(_) => Says::Refused(Some(31)),
     }
 }
 
 /// What the Rust says to an object; nothing where it cannot be told whether it is for a child.
-fn layer(dict: &[u8], object: &[u8]) -> Option<String> {
+fn layer(dict: &[u8], object: &[u8]) -> Option<Says> {
     let metadata = match VariantMetadata::try_new(dict) {
         Ok(metadata) => metadata,
-        Err(error) => return Some(refuses(told(DICTIONARY_REASONS, &error))),
+        Err(error) => return Some(Says::Refused(told(DICTIONARY_REASONS, &error))),
     };
     let error = match VariantObject::try_new(metadata.clone(), object) {
-        Ok(theirs) => return Some(accepts("accepts", &theirs, 0)),
+        Ok(theirs) => return Some(Says::Layer(theirs.len(), theirs.value.len())),
         Err(error) => error,
     };
     if let Some(copy) = traced(object) {
         return Some(match VariantObject::try_new(metadata, &copy) {
-            Ok(theirs) => accepts("child", &theirs, 1),
-            Err(error) => refuses(told(FIELD_REASONS, &error)),
+            Ok(theirs) => Says::Child(theirs.len(), theirs.value.len() - 1),
+            Err(error) => Says::Refused(told(FIELD_REASONS, &error)),
         });
     }
     match has_all_parts(object) {
         true => None,
-        false => Some(refuses(told(HEADER_REASONS, &error))),
+        false => Some(Says::Refused(told(HEADER_REASONS, &error))),
     }
-}
-
-/// Field count and trimmed end, less what was added to the object.
-fn accepts(word: &str, theirs: &VariantObject, added: usize) -> String {
-    format!("{word} {} {}", theirs.len(), theirs.value.len() - added)
 }
 
 /// Of an object that is cut.
@@ -229,7 +266,8 @@ fn has_all_parts(object: &[u8]) -> bool {
     ObjectParts::of(object).is_some_and(|parts| parts.region(object).is_some())
 }
 
-/// Lookups in an object that the Rust accepts: all fields' names, the query, and names near.
+/// Lookups in an object that the Rust accepts: of no name, of the query, of all fields' names,
+/// and of names near these.
 fn lookups(dict: &[u8], object: &[u8], query: Option<&[u8]>) -> Vec<Answer> {
     let accepted = VariantMetadata::try_new(dict)
         .and_then(|metadata| VariantObject::try_new(metadata, object));
@@ -252,12 +290,12 @@ fn lookups(dict: &[u8], object: &[u8], query: Option<&[u8]>) -> Vec<Answer> {
     names.into_iter().filter_map(answer).collect()
 }
 
-fn lookup(theirs: &VariantObject, copy: &[u8], name: &str) -> Option<String> {
+fn lookup(theirs: &VariantObject, copy: &[u8], name: &str) -> Option<Says> {
     if theirs.get(name).is_none() {
-        return Some("absent".to_string());
+        return Some(Says::Absent);
     }
     let field = (0..theirs.len()).find(|&field| theirs.field_name(field) == Some(name))?;
     let alone = VariantObject::try_new(theirs.metadata.clone(), copy).ok()?;
     let start = traced_start(&alone.get(name)?, copy)?;
-    Some(format!("found {field} {start} {}", theirs.value.len()))
+    Some(Says::Found(field, start, theirs.value.len()))
 }

@@ -5,7 +5,7 @@ use differential::encode::{ObjectShape, object as object_of, plain_object};
 use differential::exhaustive::{all_bytes, each};
 use differential::fixed::SORTED;
 use lichenhusk::Refusal;
-use parquet_variant::{MAX_NESTING_DEPTH, VariantMetadata, VariantObject};
+use parquet_variant::{MAX_NESTING_DEPTH, VariantMetadata, VariantObject, VariantPath};
 use std::panic::catch_unwind;
 use std::time::{Duration, Instant};
 
@@ -40,6 +40,17 @@ fn empty_children() {
             Ok(Some(&[][..]))
         );
     }
+}
+
+/// A child of no known type, which we do not read.
+#[test]
+fn children_that_are_no_values() {
+    let object = [2, 1, 0, 0, 1, 0xFC];
+    assert!(!rust_accepts(SORTED, &object));
+    assert_eq!(
+        lichenhusk::child(SORTED, &object, b"flow"),
+        Ok(Some(&[0xFC][..]))
+    );
 }
 
 /// 10 and 20: the Rust has no limit of length.
@@ -98,7 +109,13 @@ fn field_past_the_last() {
     let metadata = VariantMetadata::try_new(SORTED).unwrap();
     let object = VariantObject::try_new(metadata, &[2, 0, 0]).unwrap();
     assert_eq!(object.field(0), None);
-    assert_eq!(object.field_name(0), None);
+}
+
+/// Documented as a field, a name in brackets without quotes is refused.
+#[test]
+fn paths_without_quotes() {
+    assert!(VariantPath::try_from("[field]").is_err());
+    assert!(VariantPath::try_from("['field']").is_ok());
 }
 
 /// Thirty-two fields that share one child, in one another so deep.
