@@ -1,0 +1,70 @@
+// A file's bytes, or why it cannot be read.
+ghost use Prim.Native.Nat.{_≤_};
+ghost use lib.ListN.{length};
+use libc::STDOUT_FILENO;
+
+pub struct File {
+    pub good: bool,
+    pub len: usize,
+}
+
+fn bad() -> File
+    ensures { λ r. ⌜ r .len ≤ 0 ⌝ }
+{
+    File {
+        good: false,
+        len: 0,
+    }
+}
+
+fn why(error: i32) {
+    if error == libc::ENOENT {
+        io::write_all(STDOUT_FILENO, b"there is no such file\n");
+    } else if error == libc::EACCES {
+        io::write_all(STDOUT_FILENO, b"that is not allowed\n");
+    } else if error == libc::EISDIR {
+        io::write_all(STDOUT_FILENO, b"it is a folder\n");
+    } else if error == libc::ENAMETOOLONG {
+        io::write_all(STDOUT_FILENO, b"its name is too long\n");
+    } else {
+        io::write_all(STDOUT_FILENO, b"the system refuses\n");
+    }
+}
+
+fn cannot(path: &[u8]) {
+    let error = os::errno();
+    io::write_all(STDOUT_FILENO, b"cannot read ");
+    crate::sentences::quoted(path);
+    io::write_all(STDOUT_FILENO, b": ");
+    why(error);
+}
+
+// As much of the file as there is room for.
+fn read(fd: i32, path: &[u8], out: &mut [u8]) -> File
+    ensures { λ r. ⌜ r .len ≤ length (now (out .exit)) ⌝ }
+{
+    let got = libc::read(fd, out);
+    if got < 0 {
+        cannot(path);
+        return bad();
+    }
+    let n = io::count(got, out);
+    let m = io::read_full(fd, &mut out[n..]);
+    File {
+        good: true,
+        len: n + m,
+    }
+}
+
+pub fn load(path: &[u8], out: &mut [u8]) -> File
+    ensures { λ r. ⌜ r .len ≤ length (now (out .exit)) ⌝ }
+{
+    let fd = os::open_read(path);
+    if fd < 0 {
+        cannot(path);
+        return bad();
+    }
+    let file = read(fd, path, out);
+    libc::close(fd);
+    file
+}

@@ -1,0 +1,4 @@
+// `variant batch` on the lines of stdin.
+fn main() {
+    command::run();
+}

@@ -1,0 +1,4 @@
+// `variant find` on files.
+fn main() {
+    command::run();
+}
