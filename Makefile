@@ -18,7 +18,7 @@ host: archive
 
 # The archive that C and Rust link.
 archive:
-	@rt staticlib strip >/dev/null || { rt staticlib strip; exit 1; }
+	@rt staticlib lichenhusk >/dev/null || { rt staticlib lichenhusk; exit 1; }
 
 # The comparison on a million inputs and more.
 differential: archive

@@ -31,31 +31,31 @@ fn read(strip: &[u8]) -> Answer
 
 pub fn dictionary(dict: &[u8]) -> Answer {
     let mut five = [0u8; 20];
-    strip::lichenhusk_dictionary(dict, &mut five);
+    lichenhusk::lichenhusk_dictionary(dict, &mut five);
     read(&five)
 }
 
 pub fn name(dict: &[u8], entry: usize) -> Answer {
     let mut five = [0u8; 20];
-    strip::lichenhusk_name(dict, entry, &mut five);
+    lichenhusk::lichenhusk_name(dict, entry, &mut five);
     read(&five)
 }
 
 pub fn layer(dict: &[u8], object: &[u8]) -> Answer {
     let mut five = [0u8; 20];
-    strip::lichenhusk_layer(dict, object, &mut five);
+    lichenhusk::lichenhusk_layer(dict, object, &mut five);
     read(&five)
 }
 
 pub fn lookup(dict: &[u8], object: &[u8], name: &[u8]) -> Answer {
     let mut five = [0u8; 20];
-    strip::lichenhusk_lookup(dict, object, name, &mut five);
+    lichenhusk::lichenhusk_lookup(dict, object, name, &mut five);
     read(&five)
 }
 
 pub fn list(dict: &[u8], object: &[u8], words: &mut [u32]) -> Answer {
     let mut five = [0u8; 20];
-    strip::lichenhusk_list(dict, object, words, &mut five);
+    lichenhusk::lichenhusk_list(dict, object, words, &mut five);
     read(&five)
 }
 

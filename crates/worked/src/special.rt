@@ -8,7 +8,7 @@ use libc::STDOUT_FILENO;
 fn empty(t: Tally, room: &mut [u8], code: usize, want: &[u8], verdict: usize) -> Tally {
     io::write_all(STDOUT_FILENO, b"the empty dictionary into a room of ");
     ask::say(b"", room.len());
-    let t = number(t, b"", strip::lichenhusk_empty(room) as usize, code);
+    let t = number(t, b"", lichenhusk::lichenhusk_empty(room) as usize, code);
     let t = bytes(t, b"the room after it", room, want);
     number(t, b"its verdict", ask::dictionary(room).code, verdict)
 }

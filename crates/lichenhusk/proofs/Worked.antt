@@ -1,0 +1,24 @@
+-- Document 01's starred worked cases: the definitions answer each as the document does. Assumes nothing.
+use mathlib.Core.Path.{_≡_, refl}
+use mathlib.Core.List.{map}
+use Rattle.width.specs.Width.{le, bytesOf}
+use Rattle.walk.specs.Walk.{upTo}
+use Rattle.utf8.specs.Utf8.{leadOf, tailsOf, char, textUpTo}
+use Rattle.names.specs.Order.{compareOf, below}
+use Rattle.names.specs.Search.{same, seek}
+use Rattle.rules.specs.Rules.{first, each, _orElse_, _otherwise_}
+use Rattle.metadata.specs.Limits.{limit, u32Max}
+use Rattle.metadata.specs.Dictionary as dictionary
+use Rattle.object.specs.Object as object
+use Rattle.lichenhusk.specs.Strip.{bytesOfWords, stripAfter}
+use Rattle.lichenhusk.specs.Worked.{Asked, Told, tell, starred}
+
+pub worked : map (λ (c : Asked × Told). tell (c .0)) starred ≡ map (λ (c : Asked × Told). c .1) starred
+unfolding le bytesOf upTo leadOf tailsOf char textUpTo compareOf below same seek
+    first each _orElse_ _otherwise_ limit u32Max
+    dictionary.version dictionary.sorted dictionary.width dictionary.count dictionary.offset dictionary.start dictionary.end
+    dictionary.region dictionary.name dictionary.entryRules dictionary.checks dictionary.verdict
+    object.basicType object.offsetWidth object.idWidth object.countWidth object.count object.idsStart object.id object.offsetsStart
+    object.offset object.start object.end object.fieldName object.nameRules object.offsetRules object.checks object.verdict
+    object.lookup object.leastAbove object.span object.row object.rows object.listChecks object.wordsAfter bytesOfWords stripAfter
+worked = refl

@@ -1,0 +1,21 @@
+-- `lichenhusk::lichenhusk_dictionary` meets its contract: 40, or the words of the answer. Assumes nothing.
+use mathlib.Core.Path.{ap, _∙_}
+use native.Mathlib.Omega.{arith}
+use borrow.Author.Needs.{needs}
+use Rattle.lichenhusk.specs.Strip.{dictionaryWords}
+use Rattle.lichenhusk.proofs.Laws.{no-strip, on-strip}
+use Rattle.lichenhusk.proofs.lichenhusk_dictionary.Statement.{statement}
+use Rattle.lichenhusk.proofs.lichenhusk_dictionary.Tie as tie
+
+pub lichenhusk-dictionary-spec : {M : Type 1} → statement M
+lichenhusk-dictionary-spec =
+    tie.close
+    (tie.spec
+    (λ c. no-strip _ _ (c .if1 .taken))  -- returns
+    (λ c κs. search needs)  -- check-requires
+    (λ c κs. search needs)  -- of-verdict-requires
+    (λ c κs. search needs)  -- write-requires
+    (λ c. search needs)  -- same-length
+    (λ c. let w = c .before .before in
+    let five = w .before .before in
+    on-strip _ _ (omega arith) (five .of-verdict .ensures ∙ ap dictionaryWords (five .before .check .ensures)) (w .write .ensures .0) (w .write .ensures .1)))  -- returns-2

@@ -1,0 +1,31 @@
+-- `lichenhusk::lichenhusk_list` meets its contract: 40, or the words of the answer and of the listing. Assumes nothing.
+use mathlib.Core.Path.{ap, _∙_}
+use native.Mathlib.Omega.{arith}
+use borrow.Author.Needs.{needs}
+use borrow.Author.Tests.{lt-ltb, le-ltb}
+use lib.ListN.{length}
+use Rattle.lichenhusk.specs.Strip.{fieldWords, listAfter}
+use Rattle.lichenhusk.proofs.Laws.{no-strip, on-strip}
+use Rattle.lichenhusk.proofs.lichenhusk_list.Statement.{statement}
+use Rattle.lichenhusk.proofs.lichenhusk_list.Tie as tie
+
+pub lichenhusk-list-spec : {M : Type 1} → statement M
+unfolding listAfter
+lichenhusk-list-spec =
+    tie.close
+    (tie.spec
+    (λ c. let none = no-strip _ _ (c .if1 .taken) in
+    (none .0, (none .1, rw (lt-ltb _ _ (c .if1 .taken)))))  -- returns
+    (λ c κs. search needs)  -- list-requires
+    (λ c κs. search needs)  -- of-listing-requires
+    (λ c κs. search needs)  -- write-requires
+    (λ c. search needs)  -- same-length
+    (λ c. search needs)  -- same-length-2
+    (λ c. let w = c .before .before in
+    let five = w .before .before in
+    let l = five .before .before .before in
+    let answers = l .list .ensures in
+    let told = five .of-listing .ensures ∙ ap fieldWords (answers .0) in
+    let left = on-strip _ _ (omega arith) told (w .write .ensures .0) (w .write .ensures .1) in
+    let strip = l .before .before .before .before .before .before .before .args .strip .now in
+    (left .0, (left .1, answers .1 ∙ rw (le-ltb (length strip) 20 (omega arith))))))  -- returns-2

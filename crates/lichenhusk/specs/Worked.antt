@@ -1,0 +1,71 @@
+-- Document 01's starred worked cases, in one table: what is asked, and what the document says. proofs/Worked.antt proves that the definitions
+-- say the same. Assumes nothing.
+use mathlib.Core.List.{List, [], _∷_}
+use Prim.Native.Nat.{ℕ}
+use lib.ListN.{replicate}
+use Rattle.rules.specs.Rules.{Answer, refuse, accept}
+use Rattle.metadata.specs.Dictionary as dictionary
+use Rattle.object.specs.Object as object
+use Rattle.lichenhusk.specs.Strip.{lookupWords, stripAfter}
+
+-- what can be asked
+pub data Asked : Type 0 where
+  verdict : (d : List ℕ) → Asked
+  layer : (d o : List ℕ) → Asked
+  lookup : (d o q : List ℕ) → Asked
+  listing : (d o words : List ℕ) → Asked
+  strip : (d o q bytes : List ℕ) → Asked
+
+-- what is told: an answer, or what is left in the lent words or bytes
+pub data Told : Type 0 where
+  answers : Answer → Told
+  leaves : List ℕ → Told
+
+-- what the definitions tell
+abbrev pub tell : Asked → Told
+tell (verdict d) = answers (dictionary.verdict d)
+tell (layer d o) = answers (object.verdict d o)
+tell (lookup d o q) = answers (object.lookup d o q)
+tell (listing d o words) = leaves (object.wordsAfter d o words)
+tell (strip d o q bytes) = leaves (stripAfter bytes (lookupWords d o q))
+
+-- D holds "flow" and "roll"
+abbrev pub D : List ℕ
+D = 0x11 ∷ 0x02 ∷ 0x00 ∷ 0x04 ∷ 0x08 ∷ 0x66 ∷ 0x6C ∷ 0x6F ∷ 0x77 ∷ 0x72 ∷ 0x6F ∷ 0x6C ∷ 0x6C ∷ []
+
+abbrev pub P : List ℕ
+P = 0x02 ∷ 0x02 ∷ 0x00 ∷ 0x01 ∷ 0x01 ∷ 0x00 ∷ 0x03 ∷ 0x04 ∷ 0x0C ∷ 0xFB ∷ []
+
+abbrev pub flow : List ℕ
+flow = 0x66 ∷ 0x6C ∷ 0x6F ∷ 0x77 ∷ []
+
+abbrev pub rol : List ℕ
+rol = 0x72 ∷ 0x6F ∷ 0x6C ∷ []
+
+abbrev pub roll : List ℕ
+roll = 0x72 ∷ 0x6F ∷ 0x6C ∷ 0x6C ∷ []
+
+-- THE TABLE
+abbrev pub starred : List (Asked × Told)
+starred =
+    (verdict (0x01 ∷ 0x00 ∷ 0x00 ∷ []), answers (accept (0 ∷ 3 ∷ [])))
+    ∷ (verdict (0xC1 ∷ 0xFD ∷ 0xFF ∷ 0xFF ∷ 0x3F ∷ []), answers (refuse 13 0))
+    ∷ (verdict (0xC1 ∷ 0xFE ∷ 0xFF ∷ 0xFF ∷ 0x3F ∷ []), answers (refuse 14 0))
+    ∷ (verdict (0x01 ∷ 0x01 ∷ 0x00 ∷ 0x01 ∷ 0xFF ∷ []), answers (refuse 16 0))
+    ∷ (verdict (0x01 ∷ 0x02 ∷ 0x00 ∷ 0x01 ∷ 0x02 ∷ 0xC3 ∷ 0xA9 ∷ []), answers (refuse 17 0))
+    ∷ (verdict (0x11 ∷ 0x02 ∷ 0x00 ∷ 0x01 ∷ 0x02 ∷ 0x61 ∷ 0x61 ∷ []), answers (refuse 18 1))
+    ∷ (verdict (0x01 ∷ 0x02 ∷ 0x00 ∷ 0x01 ∷ 0x02 ∷ 0x61 ∷ 0x61 ∷ []), answers (accept (2 ∷ 7 ∷ [])))
+    ∷ (lookup D P flow, answers (accept (0 ∷ 8 ∷ 10 ∷ [])))
+    ∷ (lookup D P roll, answers (accept (1 ∷ 7 ∷ 10 ∷ [])))
+    ∷ (lookup D P rol, answers object.absent)
+    ∷ (listing D P (replicate 6 0), leaves (0 ∷ 8 ∷ 2 ∷ 1 ∷ 7 ∷ 1 ∷ []))
+    ∷ (
+      strip D P roll (replicate 20 0xEE),
+      leaves (0 ∷ 0 ∷ 0 ∷ 0 ∷ 1 ∷ 0 ∷ 0 ∷ 0 ∷ 7 ∷ 0 ∷ 0 ∷ 0 ∷ 0x0A ∷ 0 ∷ 0 ∷ 0 ∷ 0 ∷ 0 ∷ 0 ∷ 0 ∷ []),
+    )
+    ∷ (layer D (0x02 ∷ 0x01 ∷ 0x00 ∷ 0x00 ∷ 0x00 ∷ []), answers (accept (1 ∷ 5 ∷ 5 ∷ [])))
+    ∷ (lookup D (0x02 ∷ 0x01 ∷ 0x00 ∷ 0x00 ∷ 0x00 ∷ []) flow, answers (accept (0 ∷ 5 ∷ 5 ∷ [])))
+    ∷ (layer D (0x02 ∷ 0x01 ∷ 0x02 ∷ 0x00 ∷ 0x00 ∷ []), answers (refuse 25 0))
+    ∷ (layer D (0x02 ∷ 0x02 ∷ 0x01 ∷ 0x00 ∷ 0x00 ∷ 0x00 ∷ 0x00 ∷ []), answers (refuse 26 1))
+    ∷ (layer D (0x02 ∷ 0x01 ∷ 0x00 ∷ 0x02 ∷ 0x01 ∷ 0x00 ∷ []), answers (refuse 27 0))
+    ∷ []
