@@ -184,7 +184,7 @@ pub fn find(dict: &[u8], object: &[u8], name: &[u8]) {
     say(b", its value from byte ", a.start);
     say(b" to byte ", a.end);
     tell(b":");
-    start_of(object::child(dict, object, name));
+    start_of(lookup::child(dict, object, name));
     tell(b"\n");
 }
 

@@ -10,7 +10,12 @@ use Rattle.metadata.specs.Dictionary as dictionary
 use Rattle.metadata.proofs.Appended as dictionary-appended
 use Rattle.object.specs.Object as object
 use Rattle.object.proofs.Appended as object-appended
-use Rattle.lichenhusk.specs.Strip.{fieldWords, dictionaryWords, nameWords, lookupWords, layerWords, listWords, verdictWords, nameAtWords, returned, stripAfter, listAfter}
+use Rattle.lookup.specs.ByName as by-name
+use Rattle.lookup.proofs.Appended as lookup-appended
+use Rattle.listing.specs.Words as listing
+use Rattle.listing.proofs.Appended as listing-appended
+use Rattle.words.specs.Five.{fieldWords, dictionaryWords, nameWords}
+use Rattle.lichenhusk.specs.Strip.{lookupWords, layerWords, listWords, verdictWords, nameAtWords, returned, stripAfter, listAfter}
 
 -- the same code is returned and the same strip left
 abbrev pub Same : List ℕ → List ℕ → List ℕ → Type 0
@@ -30,11 +35,11 @@ module _ (d t strip : List ℕ) (fits : length (d ++ t) ≤ limit) where
     pub layer-strip : object-appended.Settled (codeOf (object.verdict d o)) → Same strip (layerWords d o) (layerWords (d ++ t) (o ++ u))
     layer-strip s = same strip (ap fieldWords (object-appended.verdict-appended d t o u fits object-fits s))
 
-    pub lookup-strip : (q : List ℕ) → object-appended.Settled (codeOf (object.lookup d o q)) → Same strip (lookupWords d o q) (lookupWords (d ++ t) (o ++ u) q)
-    lookup-strip q s = same strip (ap fieldWords (object-appended.lookup-appended d t o u fits object-fits q s))
+    pub lookup-strip : (q : List ℕ) → object-appended.Settled (codeOf (by-name.lookup d o q)) → Same strip (lookupWords d o q) (lookupWords (d ++ t) (o ++ u) q)
+    lookup-strip q s = same strip (ap fieldWords (lookup-appended.lookup-appended d t o u q fits object-fits s))
 
-    pub list-strip : (w : List ℕ) → object-appended.Settled (codeOf (object.listed d o w))
+    pub list-strip : (w : List ℕ) → object-appended.Settled (codeOf (listing.listed d o w))
         → Same strip (listWords d o w) (listWords (d ++ t) (o ++ u) w) × (listAfter (d ++ t) (o ++ u) w strip ≡ listAfter d o w strip)
     unfolding listAfter
     list-strip w s =
-        (same strip (ap fieldWords (object-appended.listed-appended d t o u fits object-fits w s)), rw (object-appended.words-appended d t o u fits object-fits w s))
+        (same strip (ap fieldWords (listing-appended.listed-appended d t o u w fits object-fits s)), rw (listing-appended.words-appended d t o u w fits object-fits s))

@@ -27,7 +27,10 @@ use Rattle.object.specs.Meaning.{Layer}
 use Rattle.object.proofs.Means as object-means
 use Rattle.object.proofs.Fits.{layer-small, child-small}
 use Rattle.object.proofs.Fits as in-object
-use Rattle.lichenhusk.specs.Strip.{fieldWords, dictionaryWords, nameWords, lookupWords, layerWords, listWords, verdictWords, nameAtWords, bytesOfWords, stripAfter}
+use Rattle.lookup.specs.ByName as by-name
+use Rattle.listing.specs.Words as listing
+use Rattle.words.specs.Five.{fieldWords, dictionaryWords, nameWords, bytesOfWords}
+use Rattle.lichenhusk.specs.Strip.{lookupWords, layerWords, listWords, verdictWords, nameAtWords, stripAfter}
 
 -- each word fits 32 bits
 abbrev pub Fits : List ℕ → Type 0
@@ -84,17 +87,17 @@ module _ (d : List ℕ) where
     layer-fits = after-checks fieldWords _ opened (λ g. let s = layer-small d o g in omega arith) (λ c p s. omega arith)
 
     pub lookup-fits : (q : List ℕ) → Fits (lookupWords d o q)
-    unfolding object.lookup
+    unfolding by-name.lookup
     lookup-fits q =
         after-checks fieldWords _ opened (λ g. go g (seek (object.fieldName d o) q (object.count o)) (seek-at (object.fieldName d o) q (object.count o))) (λ c p s. omega arith)
       where
         go : Layer d o (object.count o) (object.start o) (object.end o) → (s : Sought)
-            → ((k : ℕ) → s ≡ here k → (k < object.count o) × (object.fieldName d o k ≡ q)) → Fits (fieldWords (object.found o s))
+            → ((k : ℕ) → s ≡ here k → (k < object.count o) × (object.fieldName d o k ≡ q)) → Fits (fieldWords (by-name.found o s))
         go g nowhere is = omega arith
         go g (here k) is = let p = is k refl .0 in let s = layer-small d o g in omega (arith, child-small d o k g p)
 
     pub list-fits : (w : List ℕ) → Fits (listWords d o w)
-    unfolding object.listed object.listChecks
+    unfolding listing.listed listing.listChecks
     list-fits w =
         after-checks fieldWords _
         (meant-then _ opened λ g. by-rows (Layer d o _ _ _) Small ((length w <? 3 * object.count o ⇒ 41 at 0) ∷ []) ((λ h. small-zero 41 (omega arith)), λ f. g))

@@ -1,19 +1,19 @@
 -- What a call leaves: with 40 the strip as it was, otherwise the five words. Assumes nothing.
 use mathlib.Core.Path.{_≡_, refl}
-use mathlib.Core.List.{List, _++_}
+use mathlib.Core.List.{List}
 use Prim.Native.Nat.{ℕ, _≤_, _<_}
 use borrow.Author.Tests.{lt-ltb, le-ltb}
-use lib.ListN.{length, drop}
-use Rattle.lichenhusk.specs.declared.Words.{Words}
-use Rattle.lichenhusk.specs.Strip.{bytesOfWords, returned, stripAfter}
-use Rattle.lichenhusk.specs.Steps.{listOf}
+use lib.ListN.{length}
+use Rattle.words.specs.declared.Words.{Words}
+use Rattle.words.specs.Steps.{listOf, Wrote}
+use Rattle.lichenhusk.specs.Strip.{returned, stripAfter}
+use Rattle.lichenhusk.specs.Promises.{Left}
 
 module _ (strip words : List ℕ) where
-  pub no-strip : length strip < 20 → (40 ≡ returned strip words) × (strip ≡ stripAfter strip words)
+  pub no-strip : length strip < 20 → Left strip words 40 strip
   unfolding returned stripAfter
-  no-strip h = rw (lt-ltb _ _ h) (refl, refl)
+  no-strip h = record { returns = rw (lt-ltb _ _ h); leaves = rw (lt-ltb _ _ h) }
 
-  pub on-strip : 20 ≤ length strip → {w : Words} {code : ℕ} {after : List ℕ} → listOf w ≡ words → code ≡ w .code
-      → after ≡ bytesOfWords (listOf w) ++ drop 20 strip → (code ≡ returned strip words) × (after ≡ stripAfter strip words)
+  pub on-strip : 20 ≤ length strip → {w : Words} {code : ℕ} {after : List ℕ} → listOf w ≡ words → Wrote w strip code after → Left strip words code after
   unfolding returned stripAfter
-  on-strip h e c a = rw (le-ltb _ _ h, ← e) (c, a)
+  on-strip h e wrote = record { returns = rw (le-ltb _ _ h, ← e) (wrote .returns); leaves = rw (le-ltb _ _ h, ← e) (wrote .leaves) }

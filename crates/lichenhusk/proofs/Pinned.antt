@@ -2,24 +2,18 @@
 use mathlib.Core.Path.{_≡_, sym, _∙_}
 use mathlib.Core.List.{List}
 use Prim.Native.Nat.{ℕ}
-use Rattle.rules.specs.Rules.{codeOf}
-use Rattle.metadata.specs.Dictionary.{emptied, roomAfter}
-use Rattle.lichenhusk.specs.Strip.{returned, stripAfter, listAfter}
-
--- what every call that fills a strip promises of the words of its answer
-pub record Left (strip words : List ℕ) (code : ℕ) (after : List ℕ) : Type 0 where
-  pub returns : code ≡ returned strip words
-  pub leaves : after ≡ stripAfter strip words
+use Rattle.lichenhusk.specs.Promises.{Left, ListPromise, EmptyPromise}
 
 -- lookup, dictionary, name and layer
 pub strip-pinned : (strip words : List ℕ) (c c′ : ℕ) (a a′ : List ℕ) → Left strip words c a → Left strip words c′ a′ → (c ≡ c′) × (a ≡ a′)
 strip-pinned strip words c c′ a a′ l m = (l .returns ∙ sym (m .returns), l .leaves ∙ sym (m .leaves))
 
 -- the listing, with its words
-pub list-pinned : (d o words strip : List ℕ) (w w′ : List ℕ) → w ≡ listAfter d o words strip → w′ ≡ listAfter d o words strip → w ≡ w′
-list-pinned d o words strip w w′ p q = p ∙ sym q
+pub list-pinned : (d o words strip : List ℕ) (c c′ : ℕ) (a a′ w w′ : List ℕ) → ListPromise d o words strip c a w → ListPromise d o words strip c′ a′ w′
+    → (c ≡ c′) × (a ≡ a′) × (w ≡ w′)
+list-pinned d o words strip c c′ a a′ w w′ p q =
+    let s = strip-pinned strip _ c c′ a a′ (p .strip-left) (q .strip-left) in (s .0, s .1, p .words-left ∙ sym (q .words-left))
 
 -- the empty dictionary
-pub empty-pinned : (room : List ℕ) (c c′ : ℕ) (a a′ : List ℕ) → c ≡ codeOf (emptied room) → a ≡ roomAfter room
-    → c′ ≡ codeOf (emptied room) → a′ ≡ roomAfter room → (c ≡ c′) × (a ≡ a′)
-empty-pinned room c c′ a a′ p q r s = (p ∙ sym r, q ∙ sym s)
+pub empty-pinned : (room : List ℕ) (c c′ : ℕ) (a a′ : List ℕ) → EmptyPromise room c a → EmptyPromise room c′ a′ → (c ≡ c′) × (a ≡ a′)
+empty-pinned room c c′ a a′ p q = (p .returns ∙ sym (q .returns), p .leaves ∙ sym (q .leaves))

@@ -10,7 +10,10 @@ use Rattle.rules.specs.Rules.{first, each, _orElse_, _otherwise_}
 use Rattle.metadata.specs.Limits.{limit, u32Max}
 use Rattle.metadata.specs.Dictionary as dictionary
 use Rattle.object.specs.Object as object
-use Rattle.lichenhusk.specs.Strip.{bytesOfWords, stripAfter}
+use Rattle.lookup.specs.ByName as by-name
+use Rattle.listing.specs.Words as listing
+use Rattle.words.specs.Five.{bytesOfWords}
+use Rattle.lichenhusk.specs.Strip.{stripAfter}
 use Rattle.lichenhusk.specs.Worked.{Asked, Told, tell, starred}
 
 pub worked : map (λ (c : Asked × Told). tell (c .0)) starred ≡ map (λ (c : Asked × Told). c .1) starred
@@ -20,5 +23,5 @@ unfolding le bytesOf upTo leadOf tailsOf char textUpTo compareOf below same seek
     dictionary.region dictionary.name dictionary.entryRules dictionary.checks dictionary.verdict
     object.basicType object.offsetWidth object.idWidth object.countWidth object.count object.idsStart object.id object.offsetsStart
     object.offset object.start object.end object.fieldName object.nameRules object.offsetRules object.checks object.verdict
-    object.lookup object.leastAbove object.span object.row object.rows object.listChecks object.wordsAfter bytesOfWords stripAfter
+    by-name.lookup listing.leastAbove listing.span listing.row listing.rows listing.listChecks listing.wordsAfter bytesOfWords stripAfter
 worked = refl

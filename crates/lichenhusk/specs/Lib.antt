@@ -1,3 +1,3 @@
 pub mod Strip
-pub mod Steps
+pub mod Promises
 pub mod Worked

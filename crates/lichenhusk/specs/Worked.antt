@@ -6,6 +6,8 @@ use lib.ListN.{replicate}
 use Rattle.rules.specs.Rules.{Answer, refuse, accept}
 use Rattle.metadata.specs.Dictionary as dictionary
 use Rattle.object.specs.Object as object
+use Rattle.lookup.specs.ByName as by-name
+use Rattle.listing.specs.Words.{wordsAfter}
 use Rattle.lichenhusk.specs.Strip.{lookupWords, stripAfter}
 
 -- what can be asked
@@ -25,8 +27,8 @@ pub data Told : Type 0 where
 abbrev pub tell : Asked → Told
 tell (verdict d) = answers (dictionary.verdict d)
 tell (layer d o) = answers (object.verdict d o)
-tell (lookup d o q) = answers (object.lookup d o q)
-tell (listing d o words) = leaves (object.wordsAfter d o words)
+tell (lookup d o q) = answers (by-name.lookup d o q)
+tell (listing d o words) = leaves (wordsAfter d o words)
 tell (strip d o q bytes) = leaves (stripAfter bytes (lookupWords d o q))
 
 -- D holds "flow" and "roll"
@@ -57,7 +59,7 @@ starred =
     ∷ (verdict (0x01 ∷ 0x02 ∷ 0x00 ∷ 0x01 ∷ 0x02 ∷ 0x61 ∷ 0x61 ∷ []), answers (accept (2 ∷ 7 ∷ [])))
     ∷ (lookup D P flow, answers (accept (0 ∷ 8 ∷ 10 ∷ [])))
     ∷ (lookup D P roll, answers (accept (1 ∷ 7 ∷ 10 ∷ [])))
-    ∷ (lookup D P rol, answers object.absent)
+    ∷ (lookup D P rol, answers by-name.absent)
     ∷ (listing D P (replicate 6 0), leaves (0 ∷ 8 ∷ 2 ∷ 1 ∷ 7 ∷ 1 ∷ []))
     ∷ (
       strip D P roll (replicate 20 0xEE),

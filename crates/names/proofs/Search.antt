@@ -33,6 +33,12 @@ not-same s t n = go (same s t) refl
     go true e = absurd (n (is-same s t e))
     go false e = e
 
+-- equal names up to n: the same is found
+pub seek-same : (f g : ℕ → List ℕ) (q : List ℕ) (n : ℕ) → ((k : ℕ) → k < n → f k ≡ g k) → seek f q n ≡ seek g q n
+unfolding seek
+seek-same f g q zero h = refl
+seek-same f g q (suc n) h = rw (seek-same f g q n (λ k p. h k (omega arith)), h n (omega arith))
+
 module _ (name : ℕ → List ℕ) (query : List ℕ) where
   -- what `seek` answers, it says: here k, k is below n and its name is the query; nowhere, no name is
   pub seek-at : (n k : ℕ) → seek name query n ≡ here k → (k < n) × (name k ≡ query)

@@ -1,34 +1,24 @@
 -- Bytes added after the dictionary, after the object or after both, each within the limit, change no answer but empty and short (11, 13, 21
--- and 23): neither the verdict, nor the lookup, nor the child's bytes and place, nor the listing and its words. With the laws by which each
--- of the object's numbers stays as it is, for the layers above. Assumes nothing.
+-- and 23). With the laws by which each of the object's numbers stays as it is, for the layers above. Assumes nothing.
 use mathlib.Core.Path.{_≡_, refl}
 use mathlib.Core.Bool.{Bool, true, false, _||_}
-use mathlib.Core.List.{List, [], _∷_, _++_}
-use Prim.Native.Nat.{ℕ, zero, suc, _+_, _-_, _*_, _≤_, _<_}
+use mathlib.Core.List.{List, _++_}
+use Prim.Native.Nat.{ℕ, _+_, _-_, _*_, _≤_, _<_}
 use native.Mathlib.Omega.{arith}
 use borrow.Author.Tests.{ne-eqb}
 use lib.Dec.{eqb}
-use lib.ListN.{length, drop, length-append, List·getD-append}
+use lib.ListN.{length, length-append, List·getD-append}
 use Rattle.width.proofs.Laws.{le-append-at}
-use Rattle.part.specs.Part.{part}
-use Rattle.part.proofs.Laws.{part-append}
-use Rattle.names.specs.Search.{Sought, seek}
-use Rattle.names.specs.Search.Sought.{nowhere, here}
-use Rattle.names.proofs.Search.{seek-at}
-use Rattle.rules.specs.Rules.{Found, Kept, Stays, codeOf, first, each, _orElse_, _otherwise_}
-use Rattle.rules.specs.Rules.Test.{_<?_}
-use Rattle.rules.specs.Rules.Rule.{_⇒_at_}
-use Rattle.rules.specs.Rules.Found.{pass, stop}
-use Rattle.rules.proofs.Laws.{_&_, false-true, passed, both-pass, each-same, each-alike, kept, same-stays, stays-same, stays-more, stays-then, stays-answer}
+use Rattle.rules.specs.Rules.{Found, Kept, Stays, codeOf, first, each, _orElse_}
+use Rattle.rules.specs.Rules.Found.{pass}
+use Rattle.rules.proofs.Laws.{_&_, false-true, passed, each-same, each-alike, kept, same-stays, stays-same, stays-more, stays-then, stays-answer}
 use Rattle.metadata.specs.Limits.{limit}
 use Rattle.metadata.specs.Dictionary as dictionary
 use Rattle.metadata.proofs.Means as dictionary-means
 use Rattle.metadata.proofs.Appended as dictionary-appended
 use Rattle.object.specs.Object.{basicType, offsetWidth, idWidth, countWidth, count, idsStart, id, offsetsStart, offset, start, end, fieldName}
-use Rattle.object.specs.Object.{headRules, nameRules, offsetRules, checks, layer, verdict, found, lookup, startOf, endOf}
-use Rattle.object.specs.Object.{leastAbove, span, row, rows, listChecks, listed, unlessRefused, wordsAfter}
-use Rattle.object.proofs.Laws.{ids-before, offsets-before, id-inside, offset-inside, passes, entry-of}
-use Rattle.object.proofs.Finds.{child-inside}
+use Rattle.object.specs.Object.{headRules, nameRules, offsetRules, checks, layer, verdict}
+use Rattle.object.proofs.Laws.{ids-before, offsets-before, id-inside, offset-inside}
 use Rattle.object.proofs.Means.{good}
 
 -- the object's refusals that more bytes may lift, empty and short; and the dictionary's with them
@@ -45,7 +35,7 @@ pub record Settled (c : ℕ) : Type 0 where
   pub not-empty : c ≡ 21 → ⊥
   pub not-short : c ≡ 23 → ⊥
 
-unlifted : (c : ℕ) → Settled c → lifted c ≡ false
+pub unlifted : (c : ℕ) → Settled c → lifted c ≡ false
 unlifted c s =
     rw (ne-eqb c 11 (s .not-empty-dictionary), ne-eqb c 13 (s .not-short-dictionary), ne-eqb c 21 (s .not-empty), ne-eqb c 23 (s .not-short))
 
@@ -59,21 +49,6 @@ fields d o = first (each (nameRules d o) (count o)) orElse first (each (offsetRu
 
 abbrev pub own : List ℕ → List ℕ → Found
 own d o = first (headRules o) orElse fields d o
-
--- the words of a listing that is not refused
-abbrev written : List ℕ → List ℕ → List ℕ
-written o w = rows o (count o) ++ drop (3 * count o) w
-
--- equal numbers and names up to n: the same least above, and the same found
-least-same : (f g : ℕ → ℕ) (x n : ℕ) → ((k : ℕ) → k < n → f k ≡ g k) → leastAbove f x n ≡ leastAbove g x n
-unfolding leastAbove
-least-same f g x zero h = refl
-least-same f g x (suc n) h = rw (least-same f g x n (λ k p. h k (omega arith)), h n (omega arith))
-
-seek-same : (f g : ℕ → List ℕ) (q : List ℕ) (n : ℕ) → ((k : ℕ) → k < n → f k ≡ g k) → seek f q n ≡ seek g q n
-unfolding seek
-seek-same f g q zero h = refl
-seek-same f g q (suc n) h = rw (seek-same f g q n (λ k p. h k (omega arith)), h n (omega arith))
 
 module _ (o u : List ℕ) where
   -- EACH NUMBER STAYS where the bytes that hold it are there
@@ -116,7 +91,7 @@ module _ (o u : List ℕ) where
     start-same = rw (offsets-same, offset-width-same some, count-same)
 
   module _ (h : start o ≤ length o) where
-    counted : idsStart o ≤ length o
+    pub counted : idsStart o ≤ length o
     counted = omega (arith, ids-before o, offsets-before o)
 
     pub id-same : (k : ℕ) → k < count o → id (o ++ u) k ≡ id o k
@@ -137,20 +112,8 @@ module _ (o u : List ℕ) where
     unfolding offsetRules
     offset-rules-same k p = rw (count-same counted, offset-same k (omega arith), offset-same (count o) (omega arith))
 
-    layer-same : layer (o ++ u) ≡ layer o
+    pub layer-same : layer (o ++ u) ≡ layer o
     layer-same = rw (count-same counted, start-same counted, end-same)
-
-    -- and so do the words
-    span-same : (k : ℕ) → k < count o → span (o ++ u) k ≡ span o k
-    unfolding span
-    span-same k p =
-        rw (count-same counted, offset-same k (omega arith), least-same (offset (o ++ u)) (offset o) (offset o k) (count o + 1) (λ j q. offset-same j (omega arith)))
-
-    rows-same : (n : ℕ) → n ≤ count o → rows (o ++ u) n ≡ rows o n
-    unfolding rows row
-    rows-same zero p = refl
-    rows-same (suc n) p =
-        rw (rows-same n (omega arith), id-same n (omega arith), start-same counted, offset-same n (omega arith), span-same n (omega arith))
 
   -- THE HEADER'S CHECKS, one by one
   head-kept : length (o ++ u) ≤ limit → Kept liftedHere (headRules o) (headRules (o ++ u))
@@ -173,7 +136,7 @@ module _ (d t o u : List ℕ) where
   -- OVER AN ACCEPTED DICTIONARY
   module _ (over : dictionary.checks d ≡ pass) where
     module _ (placed : start o ≤ length o) where
-      field-same : (k : ℕ) → k < count o → id o k < dictionary.count d → fieldName (d ++ t) (o ++ u) k ≡ fieldName d o k
+      pub field-same : (k : ℕ) → k < count o → id o k < dictionary.count d → fieldName (d ++ t) (o ++ u) k ≡ fieldName d o k
       unfolding fieldName
       field-same k p i =
           let g = dictionary-means.good d over in
@@ -223,65 +186,3 @@ module _ (d t o u : List ℕ) where
     unfolding verdict
     verdict-appended s =
         stays-answer lifted (checks d o) (checks (d ++ t) (o ++ u)) _ _ checks-kept (λ e. let g = good d o e in layer-same o u (omega arith)) (unlifted _ s)
-
-    -- THE LOOKUP
-    module _ (q : List ℕ) where
-      found-same : checks d o ≡ pass → found (o ++ u) (seek (fieldName (d ++ t) (o ++ u)) q (count (o ++ u))) ≡ found o (seek (fieldName d o) q (count o))
-      found-same e =
-          let g = good d o e in
-          let placed : start o ≤ length o = omega arith in
-          let over = passes d o e .over in
-          rw (count-same o u (counted o u placed), seek-same (fieldName (d ++ t) (o ++ u)) (fieldName d o) q (count o) (λ k p. field-same over placed k p (entry-of d o e k p)))
-          (go placed (seek (fieldName d o) q (count o)) (seek-at (fieldName d o) q (count o)))
-        where
-          go : start o ≤ length o → (s : Sought) → ((k : ℕ) → s ≡ here k → (k < count o) × (fieldName d o k ≡ q)) → found (o ++ u) s ≡ found o s
-          go placed nowhere is = refl
-          go placed (here k) is = let p = is k refl in rw (start-same o u (counted o u placed), offset-same o u placed k (omega arith), end-same o u placed)
-
-      pub lookup-appended : Settled (codeOf (lookup d o q)) → lookup (d ++ t) (o ++ u) q ≡ lookup d o q
-      unfolding lookup
-      lookup-appended s = stays-answer lifted (checks d o) (checks (d ++ t) (o ++ u)) _ _ checks-kept found-same (unlifted _ s)
-
-      -- THE CHILD: where it starts and ends, counted from the object's first byte, and its bytes
-      pub child-appended : Settled (codeOf (lookup d o q))
-          → (startOf (lookup (d ++ t) (o ++ u) q) ≡ startOf (lookup d o q))
-          × (endOf (lookup (d ++ t) (o ++ u) q) ≡ endOf (lookup d o q))
-          × (part (o ++ u) (startOf (lookup (d ++ t) (o ++ u) q)) (endOf (lookup (d ++ t) (o ++ u) q)) ≡ part o (startOf (lookup d o q)) (endOf (lookup d o q)))
-      child-appended s =
-          let i = child-inside d o q in
-          rw (lookup-appended s) (refl, refl, part-append o u _ _ (i .0) (i .1))
-
-    -- THE LISTING, and its words
-    module _ (w : List ℕ) where
-      abbrev room : List ℕ → Found
-      room x = first ((length w <? 3 * count x ⇒ 41 at 0) ∷ [])
-
-      list-kept : Stays lifted (listChecks d o w) (listChecks (d ++ t) (o ++ u) w)
-      unfolding listChecks
-      list-kept =
-          stays-then lifted (checks d o) (checks (d ++ t) (o ++ u)) (room o) (room (o ++ u)) checks-kept λ e.
-          let g = good d o e in rw (count-same o u (omega arith)) (same-stays lifted (room o))
-
-      accepted : listChecks d o w ≡ pass → checks d o ≡ pass
-      unfolding listChecks
-      accepted e = both-pass (checks d o) _ e .0
-
-      pub listed-appended : Settled (codeOf (listed d o w)) → listed (d ++ t) (o ++ u) w ≡ listed d o w
-      unfolding listed
-      listed-appended s =
-          stays-answer lifted (listChecks d o w) (listChecks (d ++ t) (o ++ u) w) _ _ list-kept (λ e. let g = good d o (accepted e) in layer-same o u (omega arith)) (unlifted _ s)
-
-      pub words-appended : Settled (codeOf (listed d o w)) → wordsAfter (d ++ t) (o ++ u) w ≡ wordsAfter d o w
-      unfolding listed wordsAfter _otherwise_
-      words-appended s = go (listChecks d o w) list-kept same (unlifted _ s)
-        where
-          same : listChecks d o w ≡ pass → written (o ++ u) w ≡ written o w
-          same e =
-              let g = good d o (accepted e) in
-              rw (count-same o u (omega arith), rows-same o u (omega arith) (count o) (omega arith))
-
-          go : (f : Found) → Stays lifted f (listChecks (d ++ t) (o ++ u) w) → (f ≡ pass → written (o ++ u) w ≡ written o w)
-              → lifted (codeOf (f otherwise layer o)) ≡ false
-              → unlessRefused (listChecks (d ++ t) (o ++ u) w) (written (o ++ u) w) w ≡ unlessRefused f (written o w) w
-          go pass k h e = rw k (h refl)
-          go (stop c p) k h e = rw (k e)

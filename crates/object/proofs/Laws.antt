@@ -1,13 +1,9 @@
 -- Where the layer's numbers stand, and by which table its checks are settled. Assumes nothing.
 use mathlib.Core.Path.{_≡_, refl, _∙_}
-use mathlib.Core.Bool.{Bool, true, false, cond, _&&_, _||_}
 use mathlib.Core.List.{List}
 use Prim.Native.Nat.{ℕ, _+_, _-_, _*_, _≤_, _<_}
 use native.Mathlib.Nat.{mul-le-mul-left, mul-le-mul-right}
-use native.Mathlib.Numerals.{add-one}
 use native.Mathlib.Omega.{arith}
-use borrow.Author.Tests.{ltb-true}
-use lib.Dec.{ltb, leb}
 use lib.ListN.{drop}
 use Rattle.width.specs.Width.{le}
 use Rattle.names.specs.Search.{Rising}
@@ -17,7 +13,7 @@ use Rattle.rules.specs.Rules.{Found, first, each, Passed, _orElse_}
 use Rattle.rules.specs.Rules.Found.{pass, stop}
 use Rattle.rules.proofs.Laws.{both-pass, stops, goes, first-pass, each-passed}
 use Rattle.metadata.specs.Dictionary as dictionary
-use Rattle.object.specs.Object.{offsetWidth, idWidth, count, idsStart, id, offsetsStart, offset, start, end, fieldName, headRules, nameRules, offsetRules, checks, nearer, leastAbove}
+use Rattle.object.specs.Object.{offsetWidth, idWidth, count, idsStart, id, offsetsStart, offset, start, end, fieldName, headRules, nameRules, offsetRules, checks}
 use Rattle.object.specs.Meaning.{InRegion}
 
 -- PLACES
@@ -107,21 +103,3 @@ module _ (d o : List ℕ) where
     pub in-region : (k : ℕ) → k < count o → InRegion o k
     unfolding offsetRules
     in-region k p = each-passed (offsetRules o) (count o) (passes e .offsets) k p .0
-
--- THE LEAST ABOVE
-
-pub nearer-within : (x best y m : ℕ) → x ≤ best → best < m → y < m → (x ≤ nearer x best y) × (nearer x best y < m)
-nearer-within x best y m p q r = go (ltb x y) refl (leb best x || ltb y best)
-  where
-    go : (u : Bool) → ltb x y ≡ u → (v : Bool) → (x ≤ cond (u && v) y best) × (cond (u && v) y best < m)
-    go true e true = (omega (arith, ltb-true x y e), r)
-    go true e false = (p, q)
-    go false e v = (p, q)
-
-pub least-none : (f : ℕ → ℕ) (x : ℕ) → x ≡ leastAbove f x 0
-unfolding leastAbove
-least-none f x = refl
-
-pub least-more : (f : ℕ → ℕ) (x k : ℕ) {best y : ℕ} → best ≡ leastAbove f x k → y ≡ f k → nearer x best y ≡ leastAbove f x (k + 1)
-unfolding leastAbove
-least-more f x k p q = rw (p, q, add-one k)

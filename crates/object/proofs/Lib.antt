@@ -1,13 +1,9 @@
 pub mod Laws
 pub mod ByIds
-pub mod Rows
-pub mod Finds
 pub mod Means
 pub mod Accepts
 pub mod Refuses
-pub mod Found
 pub mod Appended
 pub mod Cut
-pub mod Listed
 pub mod Pinned
 pub mod Fits

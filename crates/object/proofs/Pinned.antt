@@ -1,4 +1,4 @@
--- Each public call's promise fixes its whole answer, and the lent words after it: two answers that meet it are equal. Each answer is read back
+-- Each public call's promise fixes its whole answer: two answers that meet it are equal. Each answer is read back
 -- out of document 01's numbers, so no two cases have the same. Assumes nothing.
 use mathlib.Core.Path.{_≡_, refl, sym, ap, ap₂, _∙_}
 use mathlib.Core.Bool.{cond}
@@ -6,7 +6,6 @@ use mathlib.Core.List.{List, [], _∷_}
 use Prim.Native.Nat.{ℕ}
 use native.Mathlib.Omega.{arith}
 use lib.Dec.{eqb}
-use denote.Ref.{RefT}
 use Rattle.rules.specs.Rules.{Answer}
 use Rattle.rules.specs.Rules.Answer.{gives}
 use Rattle.metadata.specs.declared.Head.the-variants as dictionary-head
@@ -15,20 +14,17 @@ use Rattle.object.specs.declared.Refusal.{Refusal}
 use Rattle.object.specs.declared.Refusal.the-variants.{Dictionary, TooLong, Empty, BasicType, Short, Sum, NoSuchEntry, NotAbove, Offset}
 use Rattle.object.specs.declared.Verdict.{Verdict}
 use Rattle.object.specs.declared.Verdict.the-variants as verdict
-use Rattle.object.specs.declared.Lookup.{Lookup}
-use Rattle.object.specs.declared.Lookup.the-variants as lookup
-use Rattle.object.specs.declared.Listing.{Listing}
-use Rattle.object.specs.declared.Listing.the-variants as listing
 use Rattle.object.specs.declared.Layer.{Layer}
 use Rattle.object.specs.declared.Message.{Message}
 use Rattle.object.specs.declared.Opening.{Opening}
 use Rattle.object.specs.declared.Opening.the-variants as opening
-use Rattle.object.specs.Object.{offsetWidth, idWidth, count, idsStart, offsetsStart, start, end, verdict as verdictOf, lookup as lookupOf, listed, wordsAfter}
-use Rattle.object.specs.Answers.{refusalNumber, refusalPlace, verdictNumbers, lookupNumbers, listingNumbers, PartOf}
+use Rattle.object.specs.Object.{offsetWidth, idWidth, count, idsStart, offsetsStart, start, end}
+use Rattle.object.specs.Answers.{refusalNumber, refusalPlace, verdictNumbers}
+use Rattle.object.specs.Promises.{CheckPromise}
 use Rattle.object.specs.Steps.{LayerOf, MessageOf, OpeningOf}
 
 -- REFUSALS: number and place, read back; `other` where the number is none of theirs
-refusalBy : {A : Type 0} → (Refusal → A) → A → ℕ → ℕ → A
+unfoldable pub refusalBy : {A : Type 0} → (Refusal → A) → A → ℕ → ℕ → A
 refusalBy is other c p =
     dictionaryBy (λ r. is (Dictionary r))
     (cond (eqb c 20) (is TooLong)
@@ -39,7 +35,7 @@ refusalBy is other c p =
     (cond (eqb c 25) (is (NoSuchEntry p)) (cond (eqb c 26) (is (NotAbove p)) (cond (eqb c 27) (is (Offset p)) other))))))))
     c p
 
-refusal-back : {A : Type 0} (is : Refusal → A) (other : A) (r : Refusal) → refusalBy is other (refusalNumber r) (refusalPlace r) ≡ is r
+pub refusal-back : {A : Type 0} (is : Refusal → A) (other : A) (r : Refusal) → refusalBy is other (refusalNumber r) (refusalPlace r) ≡ is r
 unfolding refusalBy dictionaryBy
 refusal-back is other (Dictionary r) = dictionary-back (λ x. is (Dictionary x)) _ r
 refusal-back is other TooLong = refl
@@ -70,36 +66,6 @@ verdict-back (verdict.Accepted n v e) = refl
 pub verdict-injective : (v u : Verdict) → verdictNumbers v ≡ verdictNumbers u → v ≡ u
 verdict-injective = by-back verdictNumbers verdictBack verdict-back
 
-lookupBack : Answer → Lookup
-lookupBack (gives c (k ∷ a ∷ e ∷ x) p) = lookup.Found k a e
-lookupBack (gives c (k ∷ a ∷ []) p) = lookup.Absent
-lookupBack (gives c (k ∷ []) p) = lookup.Absent
-lookupBack (gives c [] p) = refusalBy lookup.Refused lookup.Absent c p
-
-lookup-back : (v : Lookup) → lookupBack (lookupNumbers v) ≡ v
-unfolding lookupBack refusalBy dictionaryBy
-lookup-back (lookup.Refused r) = refusal-back lookup.Refused lookup.Absent r
-lookup-back lookup.Absent = refl
-lookup-back (lookup.Found k a e) = refl
-
-pub lookup-injective : (v u : Lookup) → lookupNumbers v ≡ lookupNumbers u → v ≡ u
-lookup-injective = by-back lookupNumbers lookupBack lookup-back
-
-listingBack : Answer → Listing
-listingBack (gives c (n ∷ v ∷ e ∷ x) p) = listing.Listed n v e
-listingBack (gives c (n ∷ v ∷ []) p) = listing.NoRoom
-listingBack (gives c (n ∷ []) p) = listing.NoRoom
-listingBack (gives c [] p) = refusalBy listing.Refused listing.NoRoom c p
-
-listing-back : (v : Listing) → listingBack (listingNumbers v) ≡ v
-unfolding listingBack refusalBy dictionaryBy
-listing-back (listing.Refused r) = refusal-back listing.Refused listing.NoRoom r
-listing-back listing.NoRoom = refl
-listing-back (listing.Listed n v e) = refl
-
-pub listing-injective : (v u : Listing) → listingNumbers v ≡ listingNumbers u → v ≡ u
-listing-injective = by-back listingNumbers listingBack listing-back
-
 -- NUMBERS HANDED ON: the one layer and the one message that meet their promise
 layer-is : (o : List ℕ) (l : Layer) → LayerOf o l
     → record { «id_width» = idWidth o; «offset_width» = offsetWidth o; count = count o; ids = idsStart o; offsets = offsetsStart o; start = start o; end = end o } ≡ l
@@ -120,17 +86,5 @@ open-pinned d o (opening.Refused r) (opening.Open n) a b = let c = b .passes in 
 open-pinned d o (opening.Open m) (opening.Refused q) a b = let c = a .passes in let z : _≡_ {A = ℕ} 0 1 = cc in absurd (omega arith)
 open-pinned d o (opening.Open m) (opening.Open n) a b = ap opening.Open (message-pinned d o m n a b)
 
-pub check-pinned : (d o : List ℕ) (r q : Verdict) → verdictNumbers r ≡ verdictOf d o → verdictNumbers q ≡ verdictOf d o → r ≡ q
+pub check-pinned : (d o : List ℕ) (r q : Verdict) → CheckPromise d o r → CheckPromise d o q → r ≡ q
 check-pinned d o r q a b = verdict-injective r q (a ∙ sym b)
-
-pub get-pinned : (d o name : List ℕ) (r q : Lookup) → lookupNumbers r ≡ lookupOf d o name → lookupNumbers q ≡ lookupOf d o name → r ≡ q
-get-pinned d o name r q a b = lookup-injective r q (a ∙ sym b)
-
--- the part's bytes, and the place where it starts
-pub child-pinned : (whole r r′ : RefT (List ℕ)) (from to : ℕ) → PartOf whole r from to → PartOf whole r′ from to → (r .now ≡ r′ .now) × (r .ptr ≡ r′ .ptr)
-child-pinned whole r r′ from to a b = (a .bytes ∙ sym (b .bytes), a .place ∙ sym (b .place))
-
--- the answer, and the words after it
-pub list-pinned : (d o words : List ℕ) (r q : Listing) (after after′ : List ℕ) → listingNumbers r ≡ listed d o words → after ≡ wordsAfter d o words
-    → listingNumbers q ≡ listed d o words → after′ ≡ wordsAfter d o words → (r ≡ q) × (after ≡ after′)
-list-pinned d o words r q after after′ a s b t = (listing-injective r q (a ∙ sym b), s ∙ sym t)

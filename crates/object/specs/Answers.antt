@@ -1,20 +1,12 @@
 -- Document 01's number, values and place for each case of the answers. Assumes nothing.
-use mathlib.Core.Path.{_≡_}
-use mathlib.Core.List.{List, [], _∷_}
-use Prim.Native.Nat.{ℕ, _+_}
-use denote.Ref.{RefT}
-use Rattle.part.specs.Part.{part}
+use mathlib.Core.List.{[], _∷_}
+use Prim.Native.Nat.{ℕ}
 use Rattle.rules.specs.Rules.{Answer, refuse, accept}
 use Rattle.metadata.specs.Answers as dictionary
-use Rattle.object.specs.Object.{absent}
 use Rattle.object.specs.declared.Refusal.{Refusal}
 use Rattle.object.specs.declared.Refusal.the-variants.{Dictionary, TooLong, Empty, BasicType, Short, Sum, NoSuchEntry, NotAbove, Offset}
 use Rattle.object.specs.declared.Verdict.{Verdict}
 use Rattle.object.specs.declared.Verdict.the-variants as verdict
-use Rattle.object.specs.declared.Lookup.{Lookup}
-use Rattle.object.specs.declared.Lookup.the-variants as lookup
-use Rattle.object.specs.declared.Listing.{Listing}
-use Rattle.object.specs.declared.Listing.the-variants as listing
 
 -- number and place of each refusal; a dictionary's keeps its own
 abbrev pub refusalNumber : Refusal → ℕ
@@ -45,19 +37,3 @@ refused r = refuse (refusalNumber r) (refusalPlace r)
 abbrev pub verdictNumbers : Verdict → Answer
 verdictNumbers (verdict.Refused r) = refused r
 verdictNumbers (verdict.Accepted n v e) = accept (n ∷ v ∷ e ∷ [])
-
-abbrev pub lookupNumbers : Lookup → Answer
-lookupNumbers (lookup.Refused r) = refused r
-lookupNumbers lookup.Absent = absent
-lookupNumbers (lookup.Found k a e) = accept (k ∷ a ∷ e ∷ [])
-
-abbrev pub listingNumbers : Listing → Answer
-listingNumbers (listing.Refused r) = refused r
-listingNumbers listing.NoRoom = refuse 41 0
-listingNumbers (listing.Listed n v e) = accept (n ∷ v ∷ e ∷ [])
-
--- A PART THAT IS HANDED BACK: its bytes, and the place where it starts, so that the empty part at the object's start and an empty child are
--- told apart
-pub record PartOf (whole r : RefT (List ℕ)) (from to : ℕ) : Type 0 where
-  pub bytes : r .now ≡ part (whole .now) from to
-  pub place : r .ptr ≡ (whole .ptr .0, from + whole .ptr .1)

@@ -1,4 +1,5 @@
 pub mod Object
 pub mod Meaning
 pub mod Answers
+pub mod Promises
 pub mod Steps

@@ -1,6 +1,5 @@
 -- What document 01 asks of an object layer, in its words and its order: the rules that hold of an accepted one, and when each refusal is due.
--- proofs/Accepts.antt and proofs/Refuses.antt show that the verdict of Object.antt says the same, proofs/Found.antt that the lookup does.
--- Assumes nothing.
+-- proofs/Accepts.antt and proofs/Refuses.antt show that the verdict of Object.antt says the same. Assumes nothing.
 use mathlib.Core.Path.{_≡_}
 use mathlib.Core.List.{List}
 use Prim.Native.Nat.{ℕ, _+_, _-_, _≤_, _<_}
@@ -75,18 +74,3 @@ pub data Refusal (d o : List ℕ) : ℕ → ℕ → Type 0 where
   not-above : {k : ℕ} → Headed d o → k < count o → ((j : ℕ) → j < k → GoodName d o j) → id o k < dictionary.count d → 0 < k
       → (Before (fieldName d o (k - 1)) (fieldName d o k) → ⊥) → Refusal d o 26 k
   past-region : {k : ℕ} → Named d o → k < count o → ((j : ℕ) → j < k → InRegion o j) → offset o (count o) < offset o k → Refusal d o 27 k
-
--- WHAT THE LOOKUP'S ANSWERS SAY
-
--- found: the layer is accepted, k is one of its fields, field k's dictionary bytes equal the query; the child runs from a to e
-pub record Found (d o q : List ℕ) (k a e : ℕ) : Type 0 where
-  pub accepted : Layer d o (count o) (start o) (end o)
-  pub is-field : k < count o
-  pub is-name : fieldName d o k ≡ q
-  pub starts : a ≡ start o + offset o k
-  pub ends : e ≡ end o
-
--- absent: the layer is accepted, and none of its fields has that name
-pub record Absent (d o q : List ℕ) : Type 0 where
-  pub accepted : Layer d o (count o) (start o) (end o)
-  pub no-field : (k : ℕ) → k < count o → fieldName d o k ≡ q → ⊥

@@ -1,17 +1,13 @@
 -- The object layer: its bytes, its checks in their order, its answers (document 01, "Object bytes" and "Answers"; VariantEncoding.md, "Value
--- Data for Object"). d is the dictionary's bytes, o the object's, q the query; a byte that is not there reads as 0. Assumes nothing.
-use mathlib.Core.Bool.{cond, _&&_, _||_}
-use mathlib.Core.List.{List, [], _∷_, _++_}
-use Prim.Native.Nat.{ℕ, zero, suc, _+_, _-_, _*_, _/_, _%_}
-use lib.Dec.{eqb, ltb, leb}
+-- Data for Object"). d is the dictionary's bytes, o the object's; a byte that is not there reads as 0. Assumes nothing.
+use mathlib.Core.Bool.{cond}
+use mathlib.Core.List.{List, [], _∷_}
+use Prim.Native.Nat.{ℕ, _+_, _-_, _*_, _/_, _%_}
+use lib.Dec.{eqb}
 use lib.ListN.{length, drop, getD}
 use Rattle.width.specs.Width.{le}
 use Rattle.names.specs.Order.{below}
-use Rattle.names.specs.Search.{Sought, seek}
-use Rattle.names.specs.Search.Sought.{nowhere, here}
 use Rattle.rules.specs.Rules.{Answer, Rule, Found, accept, first, each, _orElse_, _otherwise_}
-use Rattle.rules.specs.Rules.Answer.{gives}
-use Rattle.rules.specs.Rules.Found.{pass, stop}
 use Rattle.rules.specs.Rules.Rule.{_⇒_at_}
 use Rattle.rules.specs.Rules.Test.{_<?_, _≤?_, _≠?_, isn't, _and_}
 use Rattle.metadata.specs.Limits.{limit, u32Max}
@@ -113,57 +109,3 @@ layer o = accept (count o ∷ start o ∷ end o ∷ [])
 
 unfoldable pub verdict : List ℕ → List ℕ → Answer
 verdict d o = checks d o otherwise layer o
-
--- Found gives field, start and end, counted from the object's first byte; absent is 1
-abbrev pub absent : Answer
-absent = gives 1 [] 0
-
-abbrev pub found : List ℕ → Sought → Answer
-found o nowhere = absent
-found o (here k) = accept (k ∷ (start o + offset o k) ∷ end o ∷ [])
-
-unfoldable pub lookup : List ℕ → List ℕ → List ℕ → Answer
-lookup d o q = checks d o otherwise found o (seek (fieldName d o) q (count o))
-
--- Child view: where the found child starts and ends; on absence or refusal the empty part at the object's start
-abbrev pub startOf : Answer → ℕ
-startOf (gives code values place) = getD values 1 0
-
-abbrev pub endOf : Answer → ℕ
-endOf (gives code values place) = getD values 2 0
-
--- Listing: the span runs to the least of the n + 1 offsets above the field's own, and is 0 if none is
-
--- the least above x of f 0, f 1 and so on up to n; x where none is
-abbrev pub nearer : ℕ → ℕ → ℕ → ℕ
-nearer x best y = cond (ltb x y && (leb best x || ltb y best)) y best
-
-unfoldable pub leastAbove : (ℕ → ℕ) → ℕ → ℕ → ℕ
-leastAbove f x zero = x
-leastAbove f x (suc n) = nearer x (leastAbove f x n) (f n)
-
-unfoldable pub span : List ℕ → ℕ → ℕ
-span o k = leastAbove (offset o) (offset o k) (count o + 1) - offset o k
-
--- three words a field in field order: id, start, span
-unfoldable pub row : List ℕ → ℕ → List ℕ
-row o k = id o k ∷ (start o + offset o k) ∷ span o k ∷ []
-
-unfoldable pub rows : List ℕ → ℕ → List ℕ
-rows o zero = []
-rows o (suc n) = rows o n ++ row o n
-
--- 41, listing room below three words a field, is checked last
-unfoldable pub listChecks : List ℕ → List ℕ → List ℕ → Found
-listChecks d o words = checks d o orElse first ((length words <? 3 * count o ⇒ 41 at 0) ∷ [])
-
-unfoldable pub listed : List ℕ → List ℕ → List ℕ → Answer
-listed d o words = listChecks d o words otherwise layer o
-
--- Words after these stay; any refusal leaves all
-abbrev pub unlessRefused : Found → List ℕ → List ℕ → List ℕ
-unlessRefused pass written kept = written
-unlessRefused (stop code place) written kept = kept
-
-unfoldable pub wordsAfter : List ℕ → List ℕ → List ℕ → List ℕ
-wordsAfter d o words = unlessRefused (listChecks d o words) (rows o (count o) ++ drop (3 * count o) words) words

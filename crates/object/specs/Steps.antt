@@ -1,10 +1,7 @@
--- What the steps of the layer's check, the lookup and the listing answer each other, in the words of Object.antt. Assumes nothing.
+-- What the steps of the layer's check answer each other, in the words of Object.antt. Assumes nothing.
 use mathlib.Core.Path.{_≡_}
 use mathlib.Core.List.{List}
-use Prim.Native.Nat.{ℕ, _≤_}
-use lib.ListN.{length}
-use Rattle.names.specs.Search.{Sought}
-use Rattle.names.specs.Search.Sought.{nowhere, here}
+use Prim.Native.Nat.{ℕ, _≤_, _<_}
 use Rattle.rules.specs.Rules.{Found, first, Passed}
 use Rattle.rules.specs.Rules.Found.{pass, stop}
 use Rattle.metadata.specs.Steps as dictionary
@@ -18,13 +15,12 @@ use Rattle.object.specs.declared.Head.{Head}
 use Rattle.object.specs.declared.Head.the-variants as head
 use Rattle.object.specs.declared.Outcome.{Outcome}
 use Rattle.object.specs.declared.Outcome.the-variants as outcome
+use Rattle.object.specs.declared.Judged.{Judged}
+use Rattle.object.specs.declared.Judged.the-variants as judged
 use Rattle.object.specs.declared.Message.{Message}
 use Rattle.object.specs.declared.Opening.{Opening}
 use Rattle.object.specs.declared.Opening.the-variants as opening
-use Rattle.object.specs.declared.Search.{Search}
-use Rattle.object.specs.declared.Search.the-variants as search
-use Rattle.object.specs.declared.Place.{Place}
-use Rattle.object.specs.Object.{basicType, offsetWidth, idWidth, countWidth, count, idsStart, offsetsStart, start, end, headRules, checks, lookup, startOf, endOf}
+use Rattle.object.specs.Object.{basicType, offsetWidth, idWidth, countWidth, count, idsStart, offsetsStart, start, end, headRules, checks}
 use Rattle.object.specs.Answers.{refusalNumber, refusalPlace}
 
 abbrev pub stopOf : Refusal → Found
@@ -73,6 +69,12 @@ abbrev pub foundOf : Outcome → Found
 foundOf (outcome.Refused r) = stopOf r
 foundOf outcome.Pass = pass
 
+-- what the id of field k says, over n entries and after the id `before`
+abbrev pub IdSays : ℕ → ℕ → ℕ → ℕ → Judged → Type 0
+IdSays n k before id judged.NoSuchEntry = n ≤ id
+IdSays n k before id judged.NotAbove = (id < n) × (0 < k) × (id ≤ before)
+IdSays n k before id judged.Good = (id < n) × (0 < k → before < id)
+
 -- h is of a dictionary that passed its checks
 abbrev pub Over : List ℕ → Header → Type 0
 Over d h = dictionary.CheckedOf d (dictionary-head.Good h)
@@ -91,14 +93,3 @@ pub record MessageOf (d o : List ℕ) (m : Message) : Type 0 where
 abbrev pub OpeningOf : List ℕ → List ℕ → Opening → Type 0
 OpeningOf d o (opening.Refused r) = checks d o ≡ stopOf r
 OpeningOf d o (opening.Open m) = MessageOf d o m
-
-abbrev pub soughtOf : Search → Sought
-soughtOf search.Nowhere = nowhere
-soughtOf (search.At k) = here k
-
--- where the child lies in the object
-pub record PlaceOf (d o q : List ℕ) (p : Place) : Type 0 where
-  pub start-is : p .start ≡ startOf (lookup d o q)
-  pub end-is : p .end ≡ endOf (lookup d o q)
-  pub rises : p .start ≤ p .end
-  pub inside : p .end ≤ length o

@@ -1,19 +1,16 @@
-// The object layer over a dictionary: its verdict, lookup by name, the child as a part, the listing (object.rs: VariantObject).
+// The object layer over a dictionary: its verdict, and its numbers for the layers above (object.rs: VariantObject).
 ghost use mathlib.Core.Path.{_≡_};
 ghost use mathlib.Core.Bool.{cond};
-ghost use mathlib.Core.List.{_++_};
-ghost use Prim.Native.Nat.{ℕ, _+_, _*_, _/_, _%_, _≤_, _<_};
+ghost use Prim.Native.Nat.{_+_, _/_, _%_, _≤_, _<_};
 ghost use lib.Dec.{eqb};
-ghost use lib.ListN.{length, drop};
+ghost use lib.ListN.{length};
 ghost use Rattle.part.specs.Part.{part};
-ghost use Rattle.names.specs.Order.{compareOf, below};
-ghost use Rattle.names.specs.Search.{seek};
+ghost use Rattle.names.specs.Order.{below};
 ghost use Rattle.rules.specs.Rules.{first, each, Says};
-ghost use Rattle.rules.specs.Rules.Test.{_<?_, _≤?_, isn't, _and_};
-ghost use Rattle.object.specs.Object.{offsetWidth, count as countOf, start as regionStart, end as trimmedEnd, id as idOf, offset as offsetOf, fieldName, nameRules, idRules, offsetRules, checks, verdict, lookup, startOf, endOf, nearer, leastAbove, rows, listed, wordsAfter};
-ghost use Rattle.object.specs.Meaning.{InRegion};
-ghost use Rattle.object.specs.Answers.{verdictNumbers, lookupNumbers, listingNumbers, PartOf};
-ghost use Rattle.object.specs.Steps.{LeadOf, PlacesOf, LayerOf, HeadOf, foundOf, Over, CheckedOf, MessageOf, OpeningOf, soughtOf, PlaceOf};
+ghost use Rattle.rules.specs.Rules.Test.{_<?_, isn't, _and_};
+ghost use Rattle.object.specs.Object.{offsetWidth, count as countOf, start as regionStart, end as trimmedEnd, id as idOf, offset as offsetOf, nameRules, idRules, offsetRules, checks};
+ghost use Rattle.object.specs.Promises.{CheckPromise};
+ghost use Rattle.object.specs.Steps.{LeadOf, PlacesOf, LayerOf, HeadOf, foundOf, IdSays, Over, CheckedOf, OpeningOf};
 
 // One case for each of the refusals 20 to 27, with its place, and the dictionary's own.
 pub enum Refusal {
@@ -31,26 +28,6 @@ pub enum Refusal {
 pub enum Verdict {
     Refused(Refusal),
     Accepted {
-        count: usize,
-        start: usize,
-        end: usize,
-    },
-}
-
-pub enum Lookup {
-    Refused(Refusal),
-    Absent,
-    Found {
-        field: usize,
-        start: usize,
-        end: usize,
-    },
-}
-
-pub enum Listing {
-    Refused(Refusal),
-    NoRoom,
-    Listed {
         count: usize,
         start: usize,
         end: usize,
@@ -190,8 +167,8 @@ fn read_header(object: &[u8]) -> Head
     })
 }
 
-// Field k's id.
-fn id_at(object: &[u8], l: Layer, k: usize) -> usize
+// Field k's id. Like offset_at it tests nothing: the layers above call both for fields of a checked layer.
+pub fn id_at(object: &[u8], l: Layer, k: usize) -> usize
     requires { ⌜ LayerOf (now object) l × (k < countOf (now object)) ⌝ }
     ensures { λ r. ⌜ (r ≡ idOf (now (object .entry)) k) × (r < 4294967296) ⌝ }
 {
@@ -200,7 +177,7 @@ fn id_at(object: &[u8], l: Layer, k: usize) -> usize
 }
 
 // Offset k of the n + 1.
-fn offset_at(object: &[u8], l: Layer, k: usize) -> usize
+pub fn offset_at(object: &[u8], l: Layer, k: usize) -> usize
     requires { ⌜ LayerOf (now object) l × (k ≤ countOf (now object)) ⌝ }
     ensures { λ r. ⌜ (r ≡ offsetOf (now (object .entry)) k) × (r < 4294967296) ⌝ }
 {
@@ -214,17 +191,27 @@ enum Outcome {
     Pass,
 }
 
-// Whether a field is not the first, and its id not above the one before.
-fn id_not_above(k: usize, before: usize, id: usize) -> bool
-    ensures { λ r. ⌜ Says r (0 <? k and id ≤? before) ⌝ }
+// What checks 25 and 26 come to for one id.
+enum Judged {
+    NoSuchEntry,
+    NotAbove,
+    Good,
+}
+
+// The id of field k, where `before` is that of the field before it.
+fn judge_id(entries: usize, k: usize, before: usize, id: usize) -> Judged
+    ensures { λ r. ⌜ IdSays entries k before id r ⌝ }
 {
+    if entries <= id {
+        return Judged::NoSuchEntry;
+    }
     if k == 0 {
-        return false;
+        return Judged::Good;
     }
     if before < id {
-        return false;
+        return Judged::Good;
     }
-    true
+    Judged::NotAbove
 }
 
 // Checks 25 and 26 by ids, field by field: right over a sorted dictionary.
@@ -237,14 +224,19 @@ fn check_ids(object: &[u8], l: Layer, entries: usize) -> Outcome
     let mut k = 0;
     while k < count {
         let id = id_at(object, l, k);
-        if entries <= id {
-            return Outcome::Refused(Refusal::NoSuchEntry(k));
+        let judged = judge_id(entries, k, before, id);
+        match judged {
+            Judged::NoSuchEntry => {
+                return Outcome::Refused(Refusal::NoSuchEntry(k));
+            }
+            Judged::NotAbove => {
+                return Outcome::Refused(Refusal::NotAbove(k));
+            }
+            Judged::Good => {
+                before = id;
+                k += 1;
+            }
         }
-        if id_not_above(k, before, id) {
-            return Outcome::Refused(Refusal::NotAbove(k));
-        }
-        before = id;
-        k += 1;
     }
     Outcome::Pass
 }
@@ -268,14 +260,14 @@ fn check_names(dict: &[u8], h: metadata::Header, object: &[u8], l: Layer) -> Out
     requires { ⌜ Over (now dict) h × LayerOf (now object) l ⌝ }
     ensures { λ r. ⌜ foundOf r ≡ first (each (nameRules (now (dict .entry)) (now (object .entry))) (countOf (now (object .entry)))) ⌝ }
 {
-    let entries = h.count;
+    let known = h.count;
     let count = l.count;
     let mut p = 0;
     let mut q = 0;
     let mut k = 0;
     while k < count {
         let id = id_at(object, l, k);
-        if entries <= id {
+        if known <= id {
             return Outcome::Refused(Refusal::NoSuchEntry(k));
         }
         let name = metadata::span_of(dict, h, id);
@@ -371,7 +363,7 @@ pub fn open(dict: &[u8], object: &[u8]) -> Opening
 
 // The verdict on an object layer.
 pub fn check(dict: &[u8], object: &[u8]) -> Verdict
-    ensures { λ r. ⌜ verdictNumbers r ≡ verdict (now (dict .entry)) (now (object .entry)) ⌝ }
+    ensures { λ r. ⌜ CheckPromise (now (dict .entry)) (now (object .entry)) r ⌝ }
 {
     let opening = open(dict, object);
     match opening {
@@ -379,178 +371,6 @@ pub fn check(dict: &[u8], object: &[u8]) -> Verdict
         Opening::Open(m) => {
             let l = m.layer;
             Verdict::Accepted {
-                count: l.count,
-                start: l.start,
-                end: l.end,
-            }
-        }
-    }
-}
-
-// How the name of field k compares with the one that is looked for.
-fn compare_field(dict: &[u8], object: &[u8], m: Message, k: usize, name: &[u8]) -> names::Order
-    requires { ⌜ MessageOf (now dict) (now object) m × (k < countOf (now object)) ⌝ }
-    ensures { λ r. ⌜ r ≡ compareOf (fieldName (now (dict .entry)) (now (object .entry)) k) (now (name .entry)) ⌝ }
-{
-    let h = m.header;
-    let l = m.layer;
-    let id = id_at(object, l, k);
-    let field = metadata::span_of(dict, h, id);
-    let a = field.start;
-    let e = field.end;
-    names::compare(&dict[a..e], name)
-}
-
-enum Search {
-    Nowhere,
-    At(usize),
-}
-
-// The field of that name, by halving (utils.rs: try_binary_search_range_by).
-fn find(dict: &[u8], object: &[u8], m: Message, name: &[u8]) -> Search
-    requires { ⌜ MessageOf (now dict) (now object) m ⌝ }
-    ensures { λ r. ⌜ soughtOf r ≡ seek (fieldName (now (dict .entry)) (now (object .entry))) (now (name .entry)) (countOf (now (object .entry))) ⌝ }
-{
-    let l = m.layer;
-    let mut low = 0;
-    let mut high = l.count;
-    while low < high {
-        let middle = low + (high - low) / 2;
-        let order = compare_field(dict, object, m, middle, name);
-        match order {
-            names::Order::Less => {
-                low = middle + 1;
-            }
-            names::Order::Equal => {
-                return Search::At(middle);
-            }
-            names::Order::Greater => {
-                high = middle;
-            }
-        }
-    }
-    Search::Nowhere
-}
-
-// Lookup by name.
-pub fn get(dict: &[u8], object: &[u8], name: &[u8]) -> Lookup
-    ensures { λ r. ⌜ lookupNumbers r ≡ lookup (now (dict .entry)) (now (object .entry)) (now (name .entry)) ⌝ }
-{
-    let opening = open(dict, object);
-    match opening {
-        Opening::Refused(r) => Lookup::Refused(r),
-        Opening::Open(m) => {
-            let found = find(dict, object, m, name);
-            match found {
-                Search::Nowhere => Lookup::Absent,
-                Search::At(k) => {
-                    let l = m.layer;
-                    Lookup::Found {
-                        field: k,
-                        start: l.start + offset_at(object, l, k),
-                        end: l.end,
-                    }
-                }
-            }
-        }
-    }
-}
-
-struct Place {
-    start: usize,
-    end: usize,
-}
-
-// Where the child lies in the object; nothing, at its start, on absence or refusal.
-fn child_place(dict: &[u8], object: &[u8], name: &[u8]) -> Place
-    ensures { λ r. ⌜ PlaceOf (now (dict .entry)) (now (object .entry)) (now (name .entry)) r ⌝ }
-{
-    let found = get(dict, object, name);
-    match found {
-        Lookup::Refused(_) => Place { start: 0, end: 0 },
-        Lookup::Absent => Place { start: 0, end: 0 },
-        Lookup::Found {
-            field: _,
-            start,
-            end,
-        } => Place { start, end },
-    }
-}
-
-// The child of that name, as a part of the object.
-pub fn child<'d, 'o, 'n>(dict: &'d [u8], object: &'o [u8], name: &'n [u8]) -> &'o [u8]
-    ensures { λ r. ⌜ PartOf (object .entry) r (startOf (lookup (now (dict .entry)) (now (object .entry)) (now (name .entry)))) (endOf (lookup (now (dict .entry)) (now (object .entry)) (now (name .entry)))) ⌝ }
-{
-    let place = child_place(dict, object, name);
-    let a = place.start;
-    let e = place.end;
-    &object[a..e]
-}
-
-// The lesser of two numbers above x, where the first may be none: then it is x.
-fn nearer_above(x: usize, best: usize, y: usize) -> usize
-    ensures { λ r. ⌜ r ≡ nearer x best y ⌝ }
-{
-    if y <= x {
-        return best;
-    }
-    if best <= x {
-        return y;
-    }
-    if y < best {
-        return y;
-    }
-    best
-}
-
-// The least of the n + 1 offsets above x; x where none is.
-fn least_above(object: &[u8], l: Layer, x: usize) -> usize
-    requires { ⌜ LayerOf (now object) l × (x < 4294967296) ⌝ }
-    ensures { λ r. ⌜ (r ≡ leastAbove (offsetOf (now (object .entry))) x (countOf (now (object .entry)) + 1)) × (x ≤ r) × (r < 4294967296) ⌝ }
-{
-    let count = l.count;
-    let mut best = x;
-    let mut k = 0;
-    while k <= count {
-        best = nearer_above(x, best, offset_at(object, l, k));
-        k += 1;
-    }
-    best
-}
-
-// The words of the first `count` fields: id, start, span.
-fn write_rows(object: &[u8], l: Layer, words: &mut [u32])
-    requires { ⌜ LayerOf (now object) l × ((k : ℕ) → k < countOf (now object) → InRegion (now object) k) × (3 * countOf (now object) ≤ length (now words)) ⌝ }
-    ensures { λ _. ⌜ now (words .exit) ≡ rows (now (object .entry)) (countOf (now (object .entry))) ++ drop (3 * countOf (now (object .entry))) (now (words .entry)) ⌝ }
-{
-    let count = l.count;
-    let mut at = 0;
-    let mut k = 0;
-    while k < count {
-        let offset = offset_at(object, l, k);
-        words[at] = id_at(object, l, k) as u32;
-        words[at + 1] = (l.start + offset) as u32;
-        words[at + 2] = (least_above(object, l, offset) - offset) as u32;
-        at += 3;
-        k += 1;
-    }
-}
-
-// The listing of the fields into lent words.
-pub fn list(dict: &[u8], object: &[u8], words: &mut [u32]) -> Listing
-    ensures { λ r. ⌜ listingNumbers r ≡ listed (now (dict .entry)) (now (object .entry)) (now (words .entry)) ⌝ }
-    ensures { λ _. ⌜ now (words .exit) ≡ wordsAfter (now (dict .entry)) (now (object .entry)) (now (words .entry)) ⌝ }
-{
-    let opening = open(dict, object);
-    match opening {
-        Opening::Refused(r) => Listing::Refused(r),
-        Opening::Open(m) => {
-            let l = m.layer;
-            if words.len() < 3 * l.count {
-                return Listing::NoRoom;
-            }
-            write_rows(object, l, words);
-            Listing::Listed {
                 count: l.count,
                 start: l.start,
                 end: l.end,

@@ -24,7 +24,7 @@ fn child(t: Tally, case: &[u8], object: &[u8], name: &[u8], want: &[u8]) -> Tall
     bytes(
         t,
         case,
-        object::child(b"\x11\x02\x00\x04\x08flowroll", object, name),
+        lookup::child(b"\x11\x02\x00\x04\x08flowroll", object, name),
         want,
     )
 }

@@ -2,7 +2,7 @@
 use mathlib.Core.Path.{ap, _∙_}
 use native.Mathlib.Omega.{arith}
 use borrow.Author.Needs.{needs}
-use Rattle.lichenhusk.specs.Strip.{fieldWords}
+use Rattle.words.specs.Five.{fieldWords}
 use Rattle.lichenhusk.proofs.Laws.{no-strip, on-strip}
 use Rattle.lichenhusk.proofs.lichenhusk_layer.Statement.{statement}
 use Rattle.lichenhusk.proofs.lichenhusk_layer.Tie as tie
@@ -18,4 +18,4 @@ lichenhusk-layer-spec =
     (λ c. search needs)  -- same-length
     (λ c. let w = c .before .before in
     let five = w .before .before in
-    on-strip _ _ (omega arith) (five .of-layer .ensures ∙ ap fieldWords (five .before .check .ensures)) (w .write .ensures .0) (w .write .ensures .1)))  -- returns-2
+    on-strip _ _ (omega arith) (five .of-layer .ensures ∙ ap fieldWords (five .before .check .ensures)) (w .write .ensures)))  -- returns-2

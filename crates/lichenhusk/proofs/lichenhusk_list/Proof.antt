@@ -4,7 +4,8 @@ use native.Mathlib.Omega.{arith}
 use borrow.Author.Needs.{needs}
 use borrow.Author.Tests.{lt-ltb, le-ltb}
 use lib.ListN.{length}
-use Rattle.lichenhusk.specs.Strip.{fieldWords, listAfter}
+use Rattle.words.specs.Five.{fieldWords}
+use Rattle.lichenhusk.specs.Strip.{listAfter}
 use Rattle.lichenhusk.proofs.Laws.{no-strip, on-strip}
 use Rattle.lichenhusk.proofs.lichenhusk_list.Statement.{statement}
 use Rattle.lichenhusk.proofs.lichenhusk_list.Tie as tie
@@ -14,8 +15,7 @@ unfolding listAfter
 lichenhusk-list-spec =
     tie.close
     (tie.spec
-    (λ c. let none = no-strip _ _ (c .if1 .taken) in
-    (none .0, (none .1, rw (lt-ltb _ _ (c .if1 .taken)))))  -- returns
+    (λ c. record { strip-left = no-strip _ _ (c .if1 .taken); words-left = rw (lt-ltb _ _ (c .if1 .taken)) })  -- returns
     (λ c κs. search needs)  -- list-requires
     (λ c κs. search needs)  -- of-listing-requires
     (λ c κs. search needs)  -- write-requires
@@ -25,7 +25,8 @@ lichenhusk-list-spec =
     let five = w .before .before in
     let l = five .before .before .before in
     let answers = l .list .ensures in
-    let told = five .of-listing .ensures ∙ ap fieldWords (answers .0) in
-    let left = on-strip _ _ (omega arith) told (w .write .ensures .0) (w .write .ensures .1) in
     let strip = l .before .before .before .before .before .before .before .args .strip .now in
-    (left .0, (left .1, answers .1 ∙ rw (le-ltb (length strip) 20 (omega arith))))))  -- returns-2
+    record {
+      strip-left = on-strip _ _ (omega arith) (five .of-listing .ensures ∙ ap fieldWords (answers .answers)) (w .write .ensures);
+      words-left = answers .leaves ∙ rw (le-ltb (length strip) 20 (omega arith));
+    }))  -- returns-2

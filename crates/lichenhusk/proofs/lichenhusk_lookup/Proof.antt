@@ -2,7 +2,7 @@
 use mathlib.Core.Path.{ap, _∙_}
 use native.Mathlib.Omega.{arith}
 use borrow.Author.Needs.{needs}
-use Rattle.lichenhusk.specs.Strip.{fieldWords}
+use Rattle.words.specs.Five.{fieldWords}
 use Rattle.lichenhusk.proofs.Laws.{no-strip, on-strip}
 use Rattle.lichenhusk.proofs.lichenhusk_lookup.Statement.{statement}
 use Rattle.lichenhusk.proofs.lichenhusk_lookup.Tie as tie
@@ -18,4 +18,4 @@ lichenhusk-lookup-spec =
     (λ c. search needs)  -- same-length
     (λ c. let w = c .before .before in
     let five = w .before .before in
-    on-strip _ _ (omega arith) (five .of-lookup .ensures ∙ ap fieldWords (five .before .get .ensures)) (w .write .ensures .0) (w .write .ensures .1)))  -- returns-2
+    on-strip _ _ (omega arith) (five .of-lookup .ensures ∙ ap fieldWords (five .before .get .ensures)) (w .write .ensures)))  -- returns-2

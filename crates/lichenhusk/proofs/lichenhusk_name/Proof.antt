@@ -2,7 +2,7 @@
 use mathlib.Core.Path.{ap, _∙_}
 use native.Mathlib.Omega.{arith}
 use borrow.Author.Needs.{needs}
-use Rattle.lichenhusk.specs.Strip.{nameWords}
+use Rattle.words.specs.Five.{nameWords}
 use Rattle.lichenhusk.proofs.Laws.{no-strip, on-strip}
 use Rattle.lichenhusk.proofs.lichenhusk_name.Statement.{statement}
 use Rattle.lichenhusk.proofs.lichenhusk_name.Tie as tie
@@ -18,4 +18,4 @@ lichenhusk-name-spec =
     (λ c. search needs)  -- same-length
     (λ c. let w = c .before .before in
     let five = w .before .before in
-    on-strip _ _ (omega arith) (five .of-entry .ensures ∙ ap nameWords (five .before .get .ensures)) (w .write .ensures .0) (w .write .ensures .1)))  -- returns-2
+    on-strip _ _ (omega arith) (five .of-entry .ensures ∙ ap nameWords (five .before .get .ensures)) (w .write .ensures)))  -- returns-2

@@ -2,6 +2,7 @@
 use mathlib.Core.Path.{_≡_, sym, _∙_}
 use Prim.Native.Nat.{_+_, _-_, _≤_, _<_}
 use native.Mathlib.Omega.{arith}
+use borrow.Author.Needs.{needs}
 use Rattle.rules.specs.Rules.{first, each}
 use Rattle.rules.specs.Rules.Found.{pass}
 use Rattle.rules.proofs.Laws.{first-at, first-pass, each-none, each-more, each-stop}
@@ -24,27 +25,31 @@ check-ids-spec =
     μ-loop
     (λ c. (omega arith, (λ p. absurd (omega arith)), each-none _))  -- loop-holds
     (λ c κs. omega arith)  -- id-at-requires
-    (λ c. let l = c .before .before .before .loop in
-    let a = c .before .before .before .before .before .args in
-    let rows = idRules (a .entries) (a .object .now) (l .k) in
-    sym (each-stop _ (l .k) _ (l .inv .2) (first-at 0 rows (omega arith)) (omega arith)))  -- returns
-    (λ c κs. tt)  -- id-not-above-requires
+    (λ c κs. search needs)  -- judge-id-requires
+    (λ c. search needs)  -- enum-told
     (λ c. let l = c .before .before .before .before .before .loop in
     let a = c .before .before .before .before .before .before .before .args in
-    let fault = rw (c .if2 .taken) at (c .before .id-not-above .ensures) in
-    let previous = l .inv .1 (fault .0) in
+    let fault = rw (c .enum-told .given .1) at (c .before .before .judge-id .ensures) in
     let rows = idRules (a .entries) (a .object .now) (l .k) in
-    sym (each-stop _ (l .k) _ (l .inv .2) (first-at 1 rows (omega arith, (fault .0, omega arith))) (omega arith)))  -- returns-2
+    sym (each-stop _ (l .k) _ (l .inv .2) (first-at 0 rows (omega arith)) (omega arith)))  -- returns
+    (λ c. search needs)  -- enum-told-2
+    (λ c. let l = c .before .before .before .before .before .loop in
+    let a = c .before .before .before .before .before .before .before .args in
+    let fault = rw (c .enum-told2 .given .1) at (c .before .before .judge-id .ensures) in
+    let previous = l .inv .1 (fault .1) in
+    let rows = idRules (a .entries) (a .object .now) (l .k) in
+    sym (each-stop _ (l .k) _ (l .inv .2) (first-at 1 rows (omega arith, (fault .1, omega arith))) (omega arith)))  -- returns-2
+    (λ c. search needs)  -- enum-told-3
     (λ c. omega arith)  -- add-k
     (λ c. omega arith)  -- loop-less
     (λ c. let l = c .before .before .before .before .before .loop in
     let a = c .before .before .before .before .before .before .before .args in
-    let fine = rw (c .if2 .left) at (c .before .id-not-above .ensures) in
+    let good = rw (c .enum-told3 .given .1) at (c .before .before .judge-id .ensures) in
     let k-is : l .k + 1 - 1 ≡ l .k = omega arith in
     let rows = idRules (a .entries) (a .object .now) (l .k) in (
       omega arith,
       (λ p. rw k-is (c .before .before .before .id-at .ensures .0)),
-      each-more _ (l .k) (l .inv .2) ∙ first-pass rows (omega arith, ((λ p. let f = fine p in let g = l .inv .1 p in omega arith), tt)),
+      each-more _ (l .k) (l .inv .2) ∙ first-pass rows (omega arith, ((λ p. let f = good .1 p in let g = l .inv .1 p in omega arith), tt)),
     ))  -- loop-again
     (λ c. let l = c .before .loop in
     let all : l .k ≡ countOf (c .before .before .before .args .object .now) = omega arith in

@@ -1,0 +1,5 @@
+pub mod Laws
+pub mod Rows
+pub mod Listed
+pub mod Appended
+pub mod Pinned

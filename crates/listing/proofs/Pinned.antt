@@ -1,0 +1,30 @@
+-- The call's promise fixes its whole answer, and the lent words after it: two answers that meet it are equal. The answer is read back out of
+-- document 01's numbers, so no two cases have the same. Assumes nothing.
+use mathlib.Core.Path.{_≡_, refl, sym, _∙_}
+use mathlib.Core.List.{List, [], _∷_}
+use Prim.Native.Nat.{ℕ}
+use Rattle.rules.specs.Rules.{Answer}
+use Rattle.rules.specs.Rules.Answer.{gives}
+use Rattle.metadata.proofs.Pinned.{refusalBy as dictionaryBy, by-back}
+use Rattle.object.proofs.Pinned.{refusalBy, refusal-back}
+use Rattle.listing.specs.declared.Listing.{Listing}
+use Rattle.listing.specs.declared.Listing.the-variants as listing
+use Rattle.listing.specs.Answers.{listingNumbers}
+use Rattle.listing.specs.Promises.{ListPromise}
+
+listingBack : Answer → Listing
+listingBack (gives c (n ∷ v ∷ e ∷ x) p) = listing.Listed n v e
+listingBack (gives c (n ∷ v ∷ []) p) = listing.NoRoom
+listingBack (gives c (n ∷ []) p) = listing.NoRoom
+listingBack (gives c [] p) = refusalBy listing.Refused listing.NoRoom c p
+
+listing-back : (v : Listing) → listingBack (listingNumbers v) ≡ v
+unfolding listingBack refusalBy dictionaryBy
+listing-back (listing.Refused r) = refusal-back listing.Refused listing.NoRoom r
+listing-back listing.NoRoom = refl
+listing-back (listing.Listed n v e) = refl
+
+pub list-pinned : (d o words : List ℕ) (r r′ : Listing) (after after′ : List ℕ) → ListPromise d o words r after → ListPromise d o words r′ after′
+    → (r ≡ r′) × (after ≡ after′)
+list-pinned d o words r r′ after after′ a b =
+    (by-back listingNumbers listingBack listing-back r r′ (a .answers ∙ sym (b .answers)), a .leaves ∙ sym (b .leaves))

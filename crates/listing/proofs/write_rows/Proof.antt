@@ -1,0 +1,66 @@
+-- `listing::write_rows` meets its contract: the loop keeps the rows before k, and after them the words as they were. Assumes nothing.
+use mathlib.Core.Path.{_≡_, refl}
+use mathlib.Core.List.{_++_}
+use Prim.Native.Nat.{_+_, _-_, _*_, _≤_}
+use native.Mathlib.Omega.{arith}
+use lib.ListN.{length, drop, length-set}
+use Rattle.metadata.specs.Limits.{u32Max}
+use Rattle.object.specs.Object.{count as countOf}
+use Rattle.object.proofs.Laws.{end-is}
+use Rattle.listing.specs.Words.{span, rows}
+use Rattle.listing.proofs.Rows.{rows-none, turn}
+use Rattle.listing.proofs.write_rows.Statement.{statement}
+use Rattle.listing.proofs.write_rows.Tie as tie
+
+abbrev Inv-loop : tie.InvT-loop
+Inv-loop object l words₀ fields at₀ k₀ words at k = (words ≡ rows object k ++ drop (3 * k) words₀) × (at ≡ 3 * k) × (k ≤ fields) × (length words ≡ length words₀)
+
+abbrev μ-loop : tie.MeasureT-loop
+μ-loop object l words₀ fields at₀ k₀ words at k = fields - k
+
+-- a child that starts in the region ends before the trimmed end
+inside : (c : tie.After-id-at Inv-loop μ-loop) → let l = c .before .before .before .before .before .before .args .l in l .start + c .before .offset-at .result ≤ l .end
+inside c =
+    let s = c .before .before .before .before .before .before in
+    omega (arith, s .pre .1 (c .before .before .before .loop .k) (omega arith), end-is (s .args .object .now))
+
+pub write-rows-spec : {M : Type 1} → statement M
+unfolding u32Max span
+write-rows-spec =
+    tie.close
+    (tie.spec
+    Inv-loop
+    μ-loop
+    (λ c. (rows-none _ _, omega arith, omega arith, refl))  -- loop-holds
+    (λ c κs. omega arith)  -- offset-at-requires
+    (λ c κs. omega arith)  -- id-at-requires
+    (λ c. omega arith)  -- cast-words
+    (λ c. omega arith)  -- mul-words
+    (λ c. omega arith)  -- slice-write-words
+    (λ c. omega (arith, inside (c .before)))  -- add-words
+    (λ c. omega (arith, inside (c .before)))  -- cast-words-2
+    (λ c. omega arith)  -- add-words-2
+    (λ c. omega arith)  -- mul-words-2
+    (λ c. simp length-set (omega arith))  -- slice-write-words-2
+    (λ c κs. omega arith)  -- least-above-requires
+    (λ c. omega arith)  -- sub-words
+    (λ c. omega arith)  -- cast-words-3
+    (λ c. omega arith)  -- add-words-3
+    (λ c. omega arith)  -- mul-words-3
+    (λ c. simp length-set (omega arith))  -- slice-write-words-3
+    (λ c. omega arith)  -- add-at
+    (λ c. omega arith)  -- add-k
+    (λ c. omega arith)  -- loop-less
+    (λ c. let l = c .before .before .before .before .before .loop in
+    let s = c .before .before .before .before .before .before .before .before in
+    let offset-is = c .before .before .before .offset-at .ensures .0 in
+    let span-is = rw (offset-is) at (c .least-above .ensures .0) in (
+      turn (s .args .object .now) _ (l .words) (l .k) (l .at) (l .inv .0) (l .inv .1) (c .before .before .id-at .ensures .0) (omega arith) (rw (offset-is, span-is)) (omega arith),
+      omega arith,
+      omega arith,
+      simp length-set (l .inv .3),
+    ))  -- loop-again
+    (λ c. c .before .loop .inv .3)  -- same-length
+    (λ c. let l = c .before .loop in
+    let all : l .k ≡ countOf (c .before .before .before .before .args .object .now) = omega arith in
+    rw all at (l .inv .0)))  -- returns

@@ -1,0 +1,47 @@
+-- The listing of an object's fields (document 01, "Listing"): d is the dictionary's bytes, o the object's. Assumes nothing.
+use mathlib.Core.Bool.{cond, _&&_, _||_}
+use mathlib.Core.List.{List, [], _∷_, _++_}
+use Prim.Native.Nat.{ℕ, zero, suc, _+_, _-_, _*_}
+use lib.Dec.{ltb, leb}
+use lib.ListN.{length, drop}
+use Rattle.rules.specs.Rules.{Answer, Found, first, _orElse_, _otherwise_}
+use Rattle.rules.specs.Rules.Found.{pass, stop}
+use Rattle.rules.specs.Rules.Rule.{_⇒_at_}
+use Rattle.rules.specs.Rules.Test.{_<?_}
+use Rattle.object.specs.Object.{count, id, offset, start, checks, layer}
+
+-- The span runs to the least of the n + 1 offsets above the field's own, and is 0 if none is
+
+-- the least above x of f 0, f 1 and so on up to n; x where none is
+abbrev pub nearer : ℕ → ℕ → ℕ → ℕ
+nearer x best y = cond (ltb x y && (leb best x || ltb y best)) y best
+
+unfoldable pub leastAbove : (ℕ → ℕ) → ℕ → ℕ → ℕ
+leastAbove f x zero = x
+leastAbove f x (suc n) = nearer x (leastAbove f x n) (f n)
+
+unfoldable pub span : List ℕ → ℕ → ℕ
+span o k = leastAbove (offset o) (offset o k) (count o + 1) - offset o k
+
+-- three words a field in field order: id, start, span
+unfoldable pub row : List ℕ → ℕ → List ℕ
+row o k = id o k ∷ (start o + offset o k) ∷ span o k ∷ []
+
+unfoldable pub rows : List ℕ → ℕ → List ℕ
+rows o zero = []
+rows o (suc n) = rows o n ++ row o n
+
+-- 41, listing room below three words a field, is checked last
+unfoldable pub listChecks : List ℕ → List ℕ → List ℕ → Found
+listChecks d o words = checks d o orElse first ((length words <? 3 * count o ⇒ 41 at 0) ∷ [])
+
+unfoldable pub listed : List ℕ → List ℕ → List ℕ → Answer
+listed d o words = listChecks d o words otherwise layer o
+
+-- Words after these stay; any refusal leaves all
+abbrev pub unlessRefused : Found → List ℕ → List ℕ → List ℕ
+unlessRefused pass written kept = written
+unlessRefused (stop code place) written kept = kept
+
+unfoldable pub wordsAfter : List ℕ → List ℕ → List ℕ → List ℕ
+wordsAfter d o words = unlessRefused (listChecks d o words) (rows o (count o) ++ drop (3 * count o) words) words

@@ -1,0 +1,4 @@
+pub mod Finds
+pub mod Found
+pub mod Appended
+pub mod Pinned

@@ -1,0 +1,34 @@
+-- Each public call's promise fixes its whole answer: two answers that meet it are equal. The lookup's answer is read back out of document
+-- 01's numbers, so no two cases have the same. Assumes nothing.
+use mathlib.Core.Path.{_≡_, refl, sym, _∙_}
+use mathlib.Core.List.{List, [], _∷_}
+use Prim.Native.Nat.{ℕ}
+use denote.Ref.{RefT}
+use Rattle.rules.specs.Rules.{Answer}
+use Rattle.rules.specs.Rules.Answer.{gives}
+use Rattle.metadata.proofs.Pinned.{refusalBy as dictionaryBy, by-back}
+use Rattle.object.proofs.Pinned.{refusalBy, refusal-back}
+use Rattle.lookup.specs.declared.Lookup.{Lookup}
+use Rattle.lookup.specs.declared.Lookup.the-variants as lookup
+use Rattle.lookup.specs.Answers.{lookupNumbers}
+use Rattle.lookup.specs.Promises.{GetPromise, ChildPromise}
+
+lookupBack : Answer → Lookup
+lookupBack (gives c (k ∷ a ∷ e ∷ x) p) = lookup.Found k a e
+lookupBack (gives c (k ∷ a ∷ []) p) = lookup.Absent
+lookupBack (gives c (k ∷ []) p) = lookup.Absent
+lookupBack (gives c [] p) = refusalBy lookup.Refused lookup.Absent c p
+
+lookup-back : (v : Lookup) → lookupBack (lookupNumbers v) ≡ v
+unfolding lookupBack refusalBy dictionaryBy
+lookup-back (lookup.Refused r) = refusal-back lookup.Refused lookup.Absent r
+lookup-back lookup.Absent = refl
+lookup-back (lookup.Found k a e) = refl
+
+pub get-pinned : (d o q : List ℕ) (r r′ : Lookup) → GetPromise d o q r → GetPromise d o q r′ → r ≡ r′
+get-pinned d o q r r′ a b = by-back lookupNumbers lookupBack lookup-back r r′ (a ∙ sym b)
+
+-- the part's bytes, and the place where it starts
+pub child-pinned : (d : List ℕ) (object : RefT (List ℕ)) (q : List ℕ) (r r′ : RefT (List ℕ)) → ChildPromise d object q r → ChildPromise d object q r′
+    → (r .now ≡ r′ .now) × (r .ptr ≡ r′ .ptr)
+child-pinned d object q r r′ a b = (a .bytes ∙ sym (b .bytes), a .place ∙ sym (b .place))

@@ -1,0 +1,56 @@
+-- `lookup::get` meets its contract: the refusal, or what the search found. Assumes nothing.
+use mathlib.Core.Path.{_≡_, sym, ap, _∙_}
+use Prim.Native.Nat.{_<_}
+use native.Mathlib.Omega.{arith}
+use borrow.Author.Needs.{needs}
+use Rattle.names.specs.Search.{seek}
+use Rattle.names.specs.Search.Sought.{here}
+use Rattle.names.proofs.Search.{seek-at}
+use Rattle.rules.proofs.Laws.{refused, answered}
+use Rattle.object.specs.Object.{count, fieldName}
+use Rattle.object.specs.Steps.{MessageOf}
+use Rattle.object.proofs.Laws.{in-region, end-is}
+use Rattle.lookup.specs.ByName.{found, lookup}
+use Rattle.lookup.specs.Steps.{soughtOf}
+use Rattle.lookup.proofs.get.Statement.{statement}
+use Rattle.lookup.proofs.get.Tie as tie
+
+message : (c : tie.After-l) → let m = c .before .before .before .before .before .before in
+    let a = m .before .before .before .before .before .before .args in
+    MessageOf (a .dict .now) (a .object .now) (m .opening2 .given .0 .0)
+message c = rw (c .before .before .before .before .before .before .opening2 .given .1) at (c .before .before .before .before .before .before .before .before .open .ensures)
+
+-- what was found is the field that is sought
+sought : (c : tie.After-l) → let a = c .before .before .before .before .before .before .before .before .before .before .before .before .args in
+    seek (fieldName (a .dict .now) (a .object .now)) (a .name .now) (count (a .object .now)) ≡ here (c .before .before .found .given .0 .0)
+sought c = sym (c .before .before .before .before .find .ensures) ∙ ap soughtOf (c .before .before .found .given .1)
+
+field : (c : tie.After-l) → c .before .before .found .given .0 .0 < count (c .before .before .before .before .before .before .before .before .before .before .before .before .args .object .now)
+field c =
+    let a = c .before .before .before .before .before .before .before .before .before .before .before .before .args in
+    seek-at (fieldName (a .dict .now) (a .object .now)) (a .name .now) _ _ (sought c) .0
+
+pub get-spec : {M : Type 1} → statement M
+unfolding lookup
+get-spec =
+    tie.close
+    (tie.spec
+    (λ c κs. search needs)  -- open-requires
+    (λ c. search needs)  -- enum-known-opening
+    (λ c. search needs)  -- enum-known-opening-2
+    (λ c κs. rw (c .before .opening2 .given .1) at (c .before .before .before .open .ensures))  -- find-requires
+    (λ c. search needs)  -- enum-told
+    (λ c. search needs)  -- enum-known-found
+    (λ c κs. (message c .layered, omega (arith, field c)))  -- offset-at-requires
+    (λ c. let l = c .before .before in
+    let s = l .before .before .before .before .before .before .before .before .before .before .before .before in
+    let m = message l in
+    omega (arith, m .layered .passes, in-region (s .args .dict .now) (s .args .object .now) (m .passes) _ (field l), end-is (s .args .object .now)))  -- add-t13
+    (λ c. sym (refused _ (rw (c .before .opening .given .1) at (c .before .before .before .open .ensures))))  -- returns
+    (λ c. let m = rw (c .before .before .before .before .opening2 .given .1) at (c .before .before .before .before .before .before .open .ensures) in
+    let o = c .before .before .before .before .before .before .before .before .before .before .args .object .now in
+    sym (answered _ (m .passes) ∙ ap (found o) (sym (c .before .before .find .ensures) ∙ ap soughtOf (c .enum-told .given .1))))  -- returns-2
+    (λ c. let l = c .before .before in
+    let m = message l in
+    rw (m .layered .start-is, m .layered .end-is, c .before .offset-at .ensures .0)
+    (sym (answered _ (m .passes) ∙ ap (found (l .before .before .before .before .before .before .before .before .before .before .before .before .args .object .now)) (sought l)))))  -- returns-3

@@ -1,0 +1,28 @@
+-- Lookup by name and the child view (document 01, "Answers" and "Child view"): d is the dictionary's bytes, o the object's, q the query.
+-- Assumes nothing.
+use mathlib.Core.List.{List, [], _∷_}
+use Prim.Native.Nat.{ℕ, _+_}
+use lib.ListN.{getD}
+use Rattle.names.specs.Search.{Sought, seek}
+use Rattle.names.specs.Search.Sought.{nowhere, here}
+use Rattle.rules.specs.Rules.{Answer, accept, _otherwise_}
+use Rattle.rules.specs.Rules.Answer.{gives}
+use Rattle.object.specs.Object.{count, offset, start, end, fieldName, checks}
+
+-- Found gives field, start and end, counted from the object's first byte; absent is 1
+abbrev pub absent : Answer
+absent = gives 1 [] 0
+
+abbrev pub found : List ℕ → Sought → Answer
+found o nowhere = absent
+found o (here k) = accept (k ∷ (start o + offset o k) ∷ end o ∷ [])
+
+unfoldable pub lookup : List ℕ → List ℕ → List ℕ → Answer
+lookup d o q = checks d o otherwise found o (seek (fieldName d o) q (count o))
+
+-- Child view: where the found child starts and ends; on absence or refusal the empty part at the object's start
+abbrev pub startOf : Answer → ℕ
+startOf (gives code values place) = getD values 1 0
+
+abbrev pub endOf : Answer → ℕ
+endOf (gives code values place) = getD values 2 0

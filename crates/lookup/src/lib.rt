@@ -1,0 +1,121 @@
+// Lookup by name over a checked object layer, and the child as a part of the object (object.rs: VariantObject::get).
+ghost use mathlib.Core.Path.{_≡_};
+ghost use Prim.Native.Nat.{_<_};
+ghost use Rattle.names.specs.Order.{compareOf};
+ghost use Rattle.names.specs.Search.{seek};
+ghost use Rattle.object.specs.Object.{count as countOf, fieldName};
+ghost use Rattle.object.specs.Steps.{MessageOf};
+ghost use Rattle.lookup.specs.Promises.{GetPromise, ChildPromise};
+ghost use Rattle.lookup.specs.Steps.{soughtOf, PlaceOf};
+use object::Message;
+use object::Opening;
+
+pub enum Lookup {
+    Refused(object::Refusal),
+    Absent,
+    Found {
+        field: usize,
+        start: usize,
+        end: usize,
+    },
+}
+
+// How the name of field k compares with the one that is looked for.
+fn compare_field(dict: &[u8], object: &[u8], m: Message, k: usize, name: &[u8]) -> names::Order
+    requires { ⌜ MessageOf (now dict) (now object) m × (k < countOf (now object)) ⌝ }
+    ensures { λ r. ⌜ r ≡ compareOf (fieldName (now (dict .entry)) (now (object .entry)) k) (now (name .entry)) ⌝ }
+{
+    let h = m.header;
+    let l = m.layer;
+    let id = object::id_at(object, l, k);
+    let field = metadata::span_of(dict, h, id);
+    let a = field.start;
+    let e = field.end;
+    names::compare(&dict[a..e], name)
+}
+
+enum Search {
+    Nowhere,
+    At(usize),
+}
+
+// The field of that name, by halving (utils.rs: try_binary_search_range_by).
+fn find(dict: &[u8], object: &[u8], m: Message, name: &[u8]) -> Search
+    requires { ⌜ MessageOf (now dict) (now object) m ⌝ }
+    ensures { λ r. ⌜ soughtOf r ≡ seek (fieldName (now (dict .entry)) (now (object .entry))) (now (name .entry)) (countOf (now (object .entry))) ⌝ }
+{
+    let l = m.layer;
+    let mut low = 0;
+    let mut high = l.count;
+    while low < high {
+        let middle = low + (high - low) / 2;
+        let order = compare_field(dict, object, m, middle, name);
+        match order {
+            names::Order::Less => {
+                low = middle + 1;
+            }
+            names::Order::Equal => {
+                return Search::At(middle);
+            }
+            names::Order::Greater => {
+                high = middle;
+            }
+        }
+    }
+    Search::Nowhere
+}
+
+// Lookup by name.
+pub fn get(dict: &[u8], object: &[u8], name: &[u8]) -> Lookup
+    ensures { λ r. ⌜ GetPromise (now (dict .entry)) (now (object .entry)) (now (name .entry)) r ⌝ }
+{
+    let opening = object::open(dict, object);
+    match opening {
+        Opening::Refused(r) => Lookup::Refused(r),
+        Opening::Open(m) => {
+            let found = find(dict, object, m, name);
+            match found {
+                Search::Nowhere => Lookup::Absent,
+                Search::At(k) => {
+                    let l = m.layer;
+                    Lookup::Found {
+                        field: k,
+                        start: l.start + object::offset_at(object, l, k),
+                        end: l.end,
+                    }
+                }
+            }
+        }
+    }
+}
+
+struct Place {
+    start: usize,
+    end: usize,
+}
+
+// Where the child lies in the object; nothing, at its start, on absence or refusal.
+fn child_place(dict: &[u8], object: &[u8], name: &[u8]) -> Place
+    ensures { λ r. ⌜ PlaceOf (now (dict .entry)) (now (object .entry)) (now (name .entry)) r ⌝ }
+{
+    let found = get(dict, object, name);
+    match found {
+        Lookup::Refused(_) => Place { start: 0, end: 0 },
+        Lookup::Absent => Place { start: 0, end: 0 },
+        Lookup::Found {
+            field: _,
+            start,
+            end,
+        } => Place { start, end },
+    }
+}
+
+// The child of that name, as a part of the object.
+pub fn child<'d, 'o, 'n>(dict: &'d [u8], object: &'o [u8], name: &'n [u8]) -> &'o [u8]
+    ensures { λ r. ⌜ ChildPromise (now (dict .entry)) (object .entry) (now (name .entry)) r ⌝ }
+{
+    let place = child_place(dict, object, name);
+    let a = place.start;
+    let e = place.end;
+    &object[a..e]
+}

@@ -1,0 +1,34 @@
+-- `words::write` meets its contract: five words are set, one after another. Assumes nothing.
+use mathlib.Core.Path.{refl, _∙_}
+use borrow.Author.Needs.{needs}
+use lib.Seq.{sets-eq}
+use Rattle.width.specs.Width.{bytesOf}
+use Rattle.words.specs.Five.{bytesOfWords}
+use Rattle.words.specs.Steps.{listOf}
+use Rattle.words.proofs.write.Statement.{statement}
+use Rattle.words.proofs.write.Tie as tie
+
+pub write-spec : {M : Type 1} → statement M
+unfolding bytesOf bytesOfWords
+write-spec =
+    tie.close
+    (tie.spec
+    (λ c. search needs)  -- cast-pack-u32
+    (λ c κs. search needs)  -- pack-u32-requires
+    (λ c κs. search needs)  -- pack-u32-requires-2
+    (λ c κs. search needs)  -- pack-u32-requires-3
+    (λ c κs. search needs)  -- pack-u32-requires-4
+    (λ c κs. search needs)  -- pack-u32-requires-5
+    (λ c. search needs)  -- same-length
+    (λ c. let c5 = c .before .before in
+    let c4 = c5 .before .before .before .before in
+    let c3 = c4 .before .before .before .before in
+    let c2 = c3 .before .before .before .before in
+    let c1 = c2 .before .before .before .before in
+    let s = c1 .before .before .before .before in
+    record {
+      returns = refl;
+      leaves = c5 .pack-u325 .ensures
+          ∙ rw (c4 .pack-u324 .ensures, c3 .pack-u323 .ensures, c2 .pack-u322 .ensures, c1 .pack-u32 .ensures)
+          (sets-eq (bytesOfWords (listOf (s .args .w))) (s .args .strip .now) 0 (s .pre));
+    }))  -- returns

@@ -1,0 +1,140 @@
+// An answer as the five words of a strip, and their one writer (include/lichenhusk.h has what each word is for each call).
+ghost use mathlib.Core.Path.{_≡_};
+ghost use mathlib.Core.List.{[], _∷_};
+ghost use Prim.Native.Nat.{_≤_};
+ghost use lib.ListN.{length};
+ghost use Rattle.rules.specs.Rules.{refuse};
+ghost use Rattle.metadata.specs.Answers.{refused as dictionaryRefused, verdictNumbers, entryNumbers};
+ghost use Rattle.object.specs.Answers.{refused as objectRefused, verdictNumbers as layerNumbers};
+ghost use Rattle.lookup.specs.Answers.{lookupNumbers};
+ghost use Rattle.listing.specs.Answers.{listingNumbers};
+ghost use Rattle.words.specs.Five.{fieldWords, dictionaryWords, nameWords};
+ghost use Rattle.words.specs.Steps.{listOf, Wrote};
+
+// The five numbers of a strip.
+pub struct Words {
+    pub code: u32,
+    pub number: usize,
+    pub start: usize,
+    pub end: usize,
+    pub place: usize,
+}
+
+fn refusal(code: u32, place: usize) -> Words
+    ensures { λ r. ⌜ listOf r ≡ fieldWords (refuse code place) ⌝ }
+{
+    Words {
+        code,
+        number: 0,
+        start: 0,
+        end: 0,
+        place,
+    }
+}
+
+fn answer(number: usize, start: usize, end: usize) -> Words
+    ensures { λ r. ⌜ listOf r ≡ 0 ∷ number ∷ start ∷ end ∷ 0 ∷ [] ⌝ }
+{
+    Words {
+        code: 0,
+        number,
+        start,
+        end,
+        place: 0,
+    }
+}
+
+// Refusals 10 to 18.
+fn of_dictionary_refusal(r: metadata::Refusal) -> Words
+    ensures { λ w. ⌜ listOf w ≡ fieldWords (dictionaryRefused r) ⌝ }
+{
+    match r {
+        metadata::Refusal::TooLong => refusal(10, 0),
+        metadata::Refusal::Empty => refusal(11, 0),
+        metadata::Refusal::Version => refusal(12, 0),
+        metadata::Refusal::Short => refusal(13, 0),
+        metadata::Refusal::Sum => refusal(14, 0),
+        metadata::Refusal::FirstOffset => refusal(15, 0),
+        metadata::Refusal::NotUtf8(p) => refusal(16, p),
+        metadata::Refusal::Range(k) => refusal(17, k),
+        metadata::Refusal::NotAbove(k) => refusal(18, k),
+    }
+}
+
+// Refusals 20 to 27, and the dictionary's.
+fn of_object_refusal(r: object::Refusal) -> Words
+    ensures { λ w. ⌜ listOf w ≡ fieldWords (objectRefused r) ⌝ }
+{
+    match r {
+        object::Refusal::Dictionary(d) => of_dictionary_refusal(d),
+        object::Refusal::TooLong => refusal(20, 0),
+        object::Refusal::Empty => refusal(21, 0),
+        object::Refusal::BasicType => refusal(22, 0),
+        object::Refusal::Short => refusal(23, 0),
+        object::Refusal::Sum => refusal(24, 0),
+        object::Refusal::NoSuchEntry(k) => refusal(25, k),
+        object::Refusal::NotAbove(k) => refusal(26, k),
+        object::Refusal::Offset(k) => refusal(27, k),
+    }
+}
+
+pub fn of_verdict(v: metadata::Verdict) -> Words
+    ensures { λ w. ⌜ listOf w ≡ dictionaryWords (verdictNumbers v) ⌝ }
+{
+    match v {
+        metadata::Verdict::Refused(r) => of_dictionary_refusal(r),
+        metadata::Verdict::Accepted { count, end } => answer(count, 0, end),
+    }
+}
+
+pub fn of_entry(e: metadata::Entry) -> Words
+    ensures { λ w. ⌜ listOf w ≡ nameWords (entryNumbers e) ⌝ }
+{
+    match e {
+        metadata::Entry::Refused(r) => of_dictionary_refusal(r),
+        metadata::Entry::NoSuchEntry => refusal(31, 0),
+        metadata::Entry::Named(s) => answer(0, s.start, s.end),
+    }
+}
+
+pub fn of_layer(v: object::Verdict) -> Words
+    ensures { λ w. ⌜ listOf w ≡ fieldWords (layerNumbers v) ⌝ }
+{
+    match v {
+        object::Verdict::Refused(r) => of_object_refusal(r),
+        object::Verdict::Accepted { count, start, end } => answer(count, start, end),
+    }
+}
+
+pub fn of_lookup(l: lookup::Lookup) -> Words
+    ensures { λ w. ⌜ listOf w ≡ fieldWords (lookupNumbers l) ⌝ }
+{
+    match l {
+        lookup::Lookup::Refused(r) => of_object_refusal(r),
+        lookup::Lookup::Absent => refusal(1, 0),
+        lookup::Lookup::Found { field, start, end } => answer(field, start, end),
+    }
+}
+
+pub fn of_listing(l: listing::Listing) -> Words
+    ensures { λ w. ⌜ listOf w ≡ fieldWords (listingNumbers l) ⌝ }
+{
+    match l {
+        listing::Listing::Refused(r) => of_object_refusal(r),
+        listing::Listing::NoRoom => refusal(41, 0),
+        listing::Listing::Listed { count, start, end } => answer(count, start, end),
+    }
+}
+
+// The one writer: five words to the first 20 bytes, and the code back.
+pub fn write(strip: &mut [u8], w: Words) -> u32
+    requires { ⌜ 20 ≤ length (now strip) ⌝ }
+    ensures { λ r. ⌜ Wrote w (now (strip .entry)) r (now (strip .exit)) ⌝ }
+{
+    width::pack_u32(strip, 0, w.code as usize);
+    width::pack_u32(strip, 4, w.number);
+    width::pack_u32(strip, 8, w.start);
+    width::pack_u32(strip, 12, w.end);
+    width::pack_u32(strip, 16, w.place);
+    w.code
+}
