@@ -98,7 +98,7 @@ module _ (d t : List ℕ) where
         rw (region-same, count-same (omega (arith, count-before d, start-before d)), each-same (entryRules (d ++ t)) (entryRules d) (count d) entry-same)
 
   -- THE CHECKS, the header's one by one
-  head-kept : length (d ++ t) ≤ limit → Kept lifted (headRules d) (headRules (d ++ t))
+  pub head-kept : length (d ++ t) ≤ limit → Kept lifted (headRules d) (headRules (d ++ t))
   head-kept l =
       let more = length-append d t in
       omega arith & λ f10.

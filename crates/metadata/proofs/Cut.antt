@@ -1,30 +1,43 @@
--- An accepted dictionary, cut anywhere before its trimmed end, is refused as empty or short. Assumes nothing.
+-- An accepted dictionary, cut anywhere before its trimmed end, is refused as empty or short at place 0, whatever is asked. Assumes nothing.
 use mathlib.Core.Path.{_≡_}
-use mathlib.Core.Logic.{_⊎_}
 use mathlib.Core.List.{List, [], _∷_}
 use Prim.Native.Nat.{ℕ, _<_}
 use native.Mathlib.Omega.{arith}
 use lib.ListN.{take, drop, length-take, take-append-drop}
-use Rattle.rules.specs.Rules.{Stays, accept, codeOf}
+use Rattle.rules.specs.Rules.{Kept, accept, first, StopsAs, RefusedAs}
 use Rattle.rules.specs.Rules.Found.{pass}
-use Rattle.rules.proofs.Laws.{let-through, cut-lifted, which}
-use Rattle.metadata.specs.Dictionary.{count, end, checks, verdict}
+use Rattle.rules.proofs.Laws.{let-through, both-pass, passed, cut-stops, stops-first, refused-as}
+use Rattle.metadata.specs.Dictionary.{count, end, headRules, checks, verdict, nameAt}
 use Rattle.metadata.proofs.Means.{good}
-use Rattle.metadata.proofs.Appended.{lifted, end-same, checks-kept}
+use Rattle.metadata.proofs.Appended.{lifted, end-same, head-kept}
 
--- what passes reaches its trimmed end, and the bytes after do not move that
-too-short : (d : List ℕ) (m : ℕ) → m < end d → checks (take m d) ≡ pass → ⊥
-too-short d m p e =
-    let g = good (take m d) e in
-    omega (arith, length-take m d, rw take-append-drop at (end-same (take m d) (drop m d) (omega arith)))
+module _ (d : List ℕ) (m : ℕ) where
+  -- a header that passes reaches its trimmed end, and the bytes after do not move that
+  too-short : m < end d → first (headRules (take m d)) ≡ pass → ⊥
+  too-short p e =
+      let head = passed (headRules (take m d)) e in
+      omega (arith, length-take m d, rw take-append-drop at (end-same (take m d) (drop m d) (omega arith)))
 
--- THE THEOREM
-pub cut : (d : List ℕ) (n e m : ℕ) → verdict d ≡ accept (n ∷ e ∷ []) → m < e → (codeOf (verdict (take m d)) ≡ 11) ⊎ (codeOf (verdict (take m d)) ≡ 13)
-unfolding verdict
-cut d n e m v p =
-    let through = let-through (checks d) (accept (count d ∷ end d ∷ [])) v in
-    let e-is : e ≡ end d = cc in
-    let g = good d (through .0) in
-    let stays : Stays lifted (checks (take m d)) (checks d) =
-    rw take-append-drop at (checks-kept (take m d) (drop m d) (rw take-append-drop (omega arith))) in
-    which 11 13 _ (cut-lifted lifted (checks (take m d)) (checks d) _ stays (through .0) (too-short d m (omega arith)))
+  -- so the header's table stops, and what comes after does not matter
+  pub checks-cut : checks d ≡ pass → m < end d → StopsAs 11 13 (checks (take m d))
+  unfolding checks
+  checks-cut e p =
+      let g = good d e in
+      let stays : Kept lifted (headRules (take m d)) (headRules d) = rw take-append-drop at (head-kept (take m d) (drop m d) (rw take-append-drop (omega arith))) in
+      stops-first (cut-stops 11 13 (headRules (take m d)) (headRules d) (omega arith) stays (both-pass (first (headRules d)) _ e .0) (too-short p)) _
+
+-- THE THEOREMS
+module _ (d : List ℕ) (n e m : ℕ) (accepted : verdict d ≡ accept (n ∷ e ∷ [])) (cut : m < e) where
+  stopped : StopsAs 11 13 (checks (take m d))
+  unfolding verdict
+  stopped =
+      let through = let-through (checks d) (accept (count d ∷ end d ∷ [])) accepted in
+      let e-is : e ≡ end d = cc in checks-cut d m (through .0) (omega arith)
+
+  pub verdict-cut : RefusedAs 11 13 (verdict (take m d))
+  unfolding verdict
+  verdict-cut = refused-as stopped _
+
+  pub name-cut : (i : ℕ) → RefusedAs 11 13 (nameAt (take m d) i)
+  unfolding nameAt
+  name-cut i = refused-as (stops-first stopped _) _

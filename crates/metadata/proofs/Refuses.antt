@@ -9,8 +9,8 @@ use Rattle.utf8.specs.Utf8.{textUpTo}
 use Rattle.utf8.proofs.Laws.{text-le, text-sound, text-longest}
 use Rattle.rules.specs.Rules.{refuse}
 use Rattle.rules.specs.Rules.Found.{stop}
-use Rattle.rules.proofs.Laws.{first-at, stops, turned-down, refused, each-pass, each-stop, meant-stop}
-use Rattle.metadata.specs.Dictionary.{count, end, region, regionRules, entryRules, checks, verdict}
+use Rattle.rules.proofs.Laws.{first-at, stops, turned-down, refused, each-pass, each-stop, meant-then, meant-stop, rows-mean, each-means}
+use Rattle.metadata.specs.Dictionary.{count, end, region, headRules, regionRules, entryRules, checks, verdict}
 use Rattle.metadata.specs.Meaning.{Texted, GoodEntry, LongestText, Refusal}
 use Rattle.metadata.specs.Meaning.Refusal.{too-long, empty, other-version, count-cut, start-sum, start-short, first-offset, end-sum, end-short, no-text, bad-range, not-above}
 use Rattle.metadata.proofs.Laws.{by-head, by-region}
@@ -45,20 +45,17 @@ is-due d (no-text {p = p} b l) =
 is-due d (bad-range t q g n) = by-fault d t q g (out-of-range n)
 is-due d (not-above t q g r s z n) = by-fault d t q g (not-greater r s z n)
 
--- every refusal's number is 10 or more
-pub from-ten : (d : List ℕ) {c p : ℕ} → Refusal d c p → 10 ≤ c
-from-ten d (too-long h) = omega arith
-from-ten d (empty h) = omega arith
-from-ten d (other-version b h) = omega arith
-from-ten d (count-cut b h) = omega arith
-from-ten d (start-sum b h) = omega arith
-from-ten d (start-short b f h) = omega arith
-from-ten d (first-offset b h) = omega arith
-from-ten d (end-sum b z h) = omega arith
-from-ten d (end-short b z f h) = omega arith
-from-ten d (no-text b l) = omega arith
-from-ten d (bad-range t q g n) = omega arith
-from-ten d (not-above t q g r s z n) = omega arith
+-- the dictionary's numbers are 10 to 18, so none is taken for another answer's
+abbrev Ours : ℕ → ℕ → Type 0
+Ours c p = (10 ≤ c) × (c < 19)
+
+pub checks-code : (d : List ℕ) {c p : ℕ} → checks d ≡ stop c p → (10 ≤ c) × (c < 19)
+unfolding checks entryRules
+checks-code d e =
+    meant-stop
+    (meant-then _ (rows-mean Ours (headRules d) (omega arith)) λ _.
+    meant-then _ (rows-mean Ours (regionRules (region d)) (omega arith)) λ _.
+    each-means Ours (entryRules d) (count d) (λ k q. omega arith)) e
 
 -- THE THEOREM
 pub refuses : (d : List ℕ) (c p : ℕ) → (verdict d ≡ refuse c p) ↔ Refusal d c p

@@ -1,8 +1,8 @@
 -- Laws of tests and tables: what a verdict says when it accepts, when it refuses, when bytes are added and when they are cut off.
 -- Assumes nothing.
-use mathlib.Core.Path.{_≡_, refl, sym, ap, _∙_}
+use mathlib.Core.Path.{_≡_, refl, sym, ap, ap₂, _∙_}
 use mathlib.Core.Bool.{Bool, true, false, not, cond, _&&_, _||_}
-use mathlib.Core.Logic.{_⊎_}
+use mathlib.Core.Logic.{_↔_, _⊎_, ⊎-elim}
 use mathlib.Core.Logic._⊎_.{inl, inr}
 use mathlib.Core.List.{List, [], _∷_, _++_}
 use Prim.Native.Nat.{ℕ, zero, suc, _+_, _<_}
@@ -11,7 +11,7 @@ use native.Mathlib.Numerals.{add-one}
 use native.Mathlib.Omega.{arith}
 use lib.Dec.{eqb}
 use borrow.Author.Tests.{lt-ltb, le-ltb, ltb-true, ltb-false, le-leb, lt-leb, leb-true, leb-false, eq-eqb, ne-eqb, eqb-true, eqb-false, not-true, not-false}
-use Rattle.rules.specs.Rules.{Answer, refuse, accept, codeOf, Test, Holds, Fails, holds, Rule, Found, first, each, _orElse_, _otherwise_, Passed, At, refusalAt, Stands, Kept, Stays}
+use Rattle.rules.specs.Rules.{Answer, refuse, accept, codeOf, Test, Holds, Fails, holds, Rule, Found, first, each, _orElse_, _otherwise_, Passed, At, refusalAt, Rows, Stands, Kept, Stays, StopsAs, RefusedAs}
 use Rattle.rules.specs.Rules.Answer.{gives}
 use Rattle.rules.specs.Rules.Test.{_<?_, _≤?_, _≠?_, is, isn't, _and_}
 use Rattle.rules.specs.Rules.Rule.{_⇒_at_}
@@ -21,6 +21,10 @@ use Rattle.rules.specs.Rules.Found.{pass, stop}
 infixr 5 _&_
 abbrev pub _&_ : {A B : Type 0} → A → B → A × B
 _&_ a b = (a, b)
+
+-- a promise has its sides the other way round
+pub swap : {A P : Type 0} {x y : A} → ((x ≡ y) ↔ P) → ((y ≡ x) ↔ P)
+swap both = (λ e. both .0 (sym e), λ p. sym (both .1 p))
 
 -- WHAT IS IMPOSSIBLE
 
@@ -230,6 +234,14 @@ unfolding _orElse_
 meant-then next (all-pass a) k = k a
 meant-then next (one-stops b) k = one-stops b
 
+-- what is so of every row's number and place is so of those with which the table stops
+of-rows : (B : ℕ → ℕ → Type 0) (rows : List Rule) → Rows B rows → Cases (Unit {0}) B rows
+of-rows B [] k = tt
+of-rows B ((t ⇒ c at p) ∷ rows) k = (λ h. k .0, λ f. of-rows B rows (k .1))
+
+pub rows-mean : (B : ℕ → ℕ → Type 0) (rows : List Rule) → Rows B rows → Meant (Unit {0}) B (first rows)
+rows-mean B rows k = by-rows (Unit {0}) B rows (of-rows B rows k)
+
 -- entry by entry: each table shows its refusals, given that those before it passed
 abbrev AllPassed : (ℕ → List Rule) → ℕ → Type 0
 AllPassed table n = (k : ℕ) → k < n → Passed (table k)
@@ -246,6 +258,9 @@ by-each B table (suc n) h =
     go : AllPassed table n → (next : Found) → first (table n) ≡ next → Meant (Unit {0}) B next → Meant (AllPassed table (suc n)) B next
     go all pass e (all-pass u) = all-pass (and-last (λ j. Passed (table j)) n all (passed (table n) e))
     go all (stop c p) e (one-stops b) = one-stops b
+
+pub each-means : (B : ℕ → ℕ → Type 0) (table : ℕ → List Rule) (n : ℕ) → ((k : ℕ) → k < n → Rows B (table k)) → Meant (AllPassed table n) B (first (each table n))
+each-means B table n h = by-each B table n (λ k p _. of-rows B (table k) (h k p))
 
 pub meant-map : {A C : Type 0} {B D : ℕ → ℕ → Type 0} {f : Found} → (A → C) → ((c p : ℕ) → B c p → D c p) → Meant A B f → Meant C D f
 meant-map g h (all-pass a) = all-pass (g a)
@@ -302,23 +317,33 @@ stays-answer lifted (stop c p) g x y k h e = rw (k e)
 
 -- BYTES CUT OFF
 
--- Where the whole passes and the cut one cannot, the cut one is refused by a number that more bytes lift.
-pub cut-lifted : (lifted : ℕ → Bool) (f g : Found) (x : Answer) → Stays lifted f g → g ≡ pass → (f ≡ pass → ⊥) → lifted (codeOf (f otherwise x)) ≡ true
-unfolding _otherwise_
-cut-lifted lifted pass g x k e n = absurd (n refl)
-cut-lifted lifted (stop c p) g x k e n = go (lifted c) refl
-  where
-    go : (b : Bool) → lifted c ≡ b → lifted c ≡ true
-    go true w = w
-    go false w = stop-pass (sym (k w) ∙ e)
+-- where the first part stops, what comes after does not matter
+pub stops-first : {a b : ℕ} {f : Found} → StopsAs a b f → (next : Found) → StopsAs a b (f orElse next)
+stops-first s next = ⊎-elim (λ e. inl (stops next e)) (λ e. inr (stops next e)) s
+
+pub stops-next : {a b : ℕ} {f next : Found} → f ≡ pass → StopsAs a b next → StopsAs a b (f orElse next)
+stops-next {next = next} e s = rw (goes next e) s
+
+pub refused-as : {a b : ℕ} {f : Found} → StopsAs a b f → (x : Answer) → RefusedAs a b (f otherwise x)
+refused-as s x = ⊎-elim (λ e. inl (refused x e)) (λ e. inr (refused x e)) s
 
 -- which of two numbers it is, where these two are lifted
-pub which : (a b c : ℕ) → (eqb c a || eqb c b) ≡ true → (c ≡ a) ⊎ (c ≡ b)
-which a b c e = go (eqb c a) refl e
+which : (a b c : ℕ) → ((eqb c a || eqb c b) ≡ false → ⊥) → (c ≡ a) ⊎ (c ≡ b)
+which a b c n = go (eqb c a) (eqb c b) refl refl n
   where
-    go : (u : Bool) → eqb c a ≡ u → (u || eqb c b) ≡ true → (c ≡ a) ⊎ (c ≡ b)
-    go true w e = inl (eqb-true c a w)
-    go false w e = inr (eqb-true c b e)
+    go : (u v : Bool) → eqb c a ≡ u → eqb c b ≡ v → ((u || v) ≡ false → ⊥) → (c ≡ a) ⊎ (c ≡ b)
+    go true v w x n = inl (eqb-true c a w)
+    go false true w x n = inr (eqb-true c b x)
+    go false false w x n = absurd (n refl)
+
+-- where the whole passes a table at place 0 and the cut one cannot, the cut one stops there with a number that more bytes lift
+pub cut-stops : (a b : ℕ) (rows rows′ : List Rule) → Rows (λ c p. p ≡ 0) rows → Kept (λ c. eqb c a || eqb c b) rows rows′
+    → first rows′ ≡ pass → (first rows ≡ pass → ⊥) → StopsAs a b (first rows)
+cut-stops a b rows rows′ z k e n = go (first rows) (kept _ rows rows′ k) (rows-mean _ rows z) n
+  where
+    go : (f : Found) → Stays (λ c. eqb c a || eqb c b) f (first rows′) → Meant (Unit {0}) (λ c p. p ≡ 0) f → (f ≡ pass → ⊥) → StopsAs a b f
+    go pass s m n = absurd (n refl)
+    go (stop c p) s (one-stops z) n = ⊎-elim (λ w. inl (ap₂ stop w z)) (λ w. inr (ap₂ stop w z)) (which a b c (λ l. stop-pass (sym (s l) ∙ e)))
 
 -- TWO FAMILIES OF ONE MEANING
 

@@ -3,6 +3,7 @@
 -- Assumes nothing.
 use mathlib.Core.Path.{_≡_}
 use mathlib.Core.Bool.{Bool, true, false, not, cond, _&&_}
+use mathlib.Core.Logic.{_⊎_}
 use mathlib.Core.List.{List, [], _∷_, _++_}
 use Prim.Native.Nat.{ℕ, zero, suc, _≤_, _<_}
 use lib.Dec.{ltb, leb, eqb}
@@ -117,6 +118,11 @@ refusalAt k [] = pass
 refusalAt zero ((test ⇒ code at place) ∷ rows) = stop code place
 refusalAt (suc k) ((test ⇒ code at place) ∷ rows) = refusalAt k rows
 
+-- what is so of every row's number and place
+abbrev pub Rows : (ℕ → ℕ → Type 0) → List Rule → Type 0
+Rows Is [] = Unit {0}
+Rows Is ((test ⇒ code at place) ∷ rows) = Is code place × Rows Is rows
+
 -- MORE BYTES. Two tables, of the same bytes before and after some are added, row by row: numbers and places are the same; where all rows
 -- before it failed, a row that failed fails again; and one that held holds again, unless its number is one that more bytes may lift.
 
@@ -136,3 +142,11 @@ Kept lifted ((test ⇒ code at place) ∷ rows) ((test′ ⇒ code′ at place�
 abbrev pub Stays : (lifted : ℕ → Bool) → Found → Found → Type 0
 Stays lifted pass found′ = found′ ≡ pass
 Stays lifted (stop code place) found′ = lifted code ≡ false → found′ ≡ stop code place
+
+-- FEWER BYTES: what a cut leaves, "empty" or "short", at place 0.
+
+abbrev pub StopsAs : (empty short : ℕ) → Found → Type 0
+StopsAs empty short found = (found ≡ stop empty 0) ⊎ (found ≡ stop short 0)
+
+abbrev pub RefusedAs : (empty short : ℕ) → Answer → Type 0
+RefusedAs empty short answer = (answer ≡ refuse empty 0) ⊎ (answer ≡ refuse short 0)
