@@ -19,9 +19,10 @@ use Rattle.metadata.specs.declared.Written.{Written}
 use Rattle.metadata.specs.declared.Written.the-variants as written
 use Rattle.metadata.specs.declared.Head.{Head}
 use Rattle.metadata.specs.declared.Head.the-variants as head
-use Rattle.metadata.specs.Dictionary.{sorted, width, count, offset, start, end, checks, verdict as verdictOf, nameAt, emptied, roomAfter}
+use Rattle.metadata.specs.Dictionary.{sorted, width, count, offset, start, end, checks}
 use Rattle.metadata.specs.Answers.{refusalNumber, refusalPlace, verdictNumbers, entryNumbers, writtenNumbers}
 use Rattle.metadata.specs.Steps.{CheckedOf, SpanOf}
+use Rattle.metadata.specs.Promises.{CheckPromise, GetPromise, WriteEmptyPromise}
 
 -- REFUSALS: number and place, read back; `other` where the number is none of theirs
 unfoldable pub refusalBy : {A : Type 0} → (Refusal → A) → A → ℕ → ℕ → A
@@ -107,10 +108,10 @@ span-is : (d : List ℕ) (i : ℕ) (r : Span) → SpanOf d i r → record { star
 span-is d i r o = rw (← o .start-is, ← o .end-is)
 
 -- THE THEOREMS, a call each
-pub check-pinned : (d : List ℕ) (r q : Verdict) → verdictNumbers r ≡ verdictOf d → verdictNumbers q ≡ verdictOf d → r ≡ q
+pub check-pinned : (d : List ℕ) (r q : Verdict) → CheckPromise d r → CheckPromise d q → r ≡ q
 check-pinned d r q a b = verdict-injective r q (a ∙ sym b)
 
-pub get-pinned : (d : List ℕ) (i : ℕ) (r q : Entry) → entryNumbers r ≡ nameAt d i → entryNumbers q ≡ nameAt d i → r ≡ q
+pub get-pinned : (d : List ℕ) (i : ℕ) (r q : Entry) → GetPromise d i r → GetPromise d i q → r ≡ q
 get-pinned d i r q a b = entry-injective r q (a ∙ sym b)
 
 pub checked-pinned : (d : List ℕ) (r q : Head) → CheckedOf d r → CheckedOf d q → r ≡ q
@@ -119,7 +120,5 @@ checked-pinned d r q a b = sym (head-is d r a) ∙ head-is d q b
 pub span-pinned : (d : List ℕ) (i : ℕ) (r q : Span) → SpanOf d i r → SpanOf d i q → r ≡ q
 span-pinned d i r q a b = sym (span-is d i r a) ∙ span-is d i q b
 
--- the answer, and the room after it
-pub empty-pinned : (room : List ℕ) (r q : Written) (after after′ : List ℕ) → writtenNumbers r ≡ emptied room → after ≡ roomAfter room
-    → writtenNumbers q ≡ emptied room → after′ ≡ roomAfter room → (r ≡ q) × (after ≡ after′)
-empty-pinned room r q after after′ a s b t = (written-injective r q (a ∙ sym b), s ∙ sym t)
+pub empty-pinned : (room : List ℕ) (r q : Written) (after after′ : List ℕ) → WriteEmptyPromise room r after → WriteEmptyPromise room q after′ → (r ≡ q) × (after ≡ after′)
+empty-pinned room r q after after′ a b = (written-injective r q (a .answers ∙ sym (b .answers)), a .leaves ∙ sym (b .leaves))

@@ -7,9 +7,10 @@ ghost use Rattle.utf8.specs.Utf8.{Text};
 ghost use Rattle.names.specs.Order.{below};
 ghost use Rattle.rules.specs.Rules.{first, each, Says};
 ghost use Rattle.rules.specs.Rules.Test.{is, isn't, _<?_, _and_};
-ghost use Rattle.metadata.specs.Dictionary.{width as widthOf, count as countOf, start as startOf, end as endOf, offset as offsetOf, region as regionOf, cuts, regionRules, entryRules, checks, verdict, nameAt, emptied, roomAfter};
-ghost use Rattle.metadata.specs.Answers.{verdictNumbers, entryNumbers, writtenNumbers};
+ghost use Rattle.metadata.specs.Dictionary.{width as widthOf, count as countOf, start as startOf, end as endOf, offset as offsetOf, region as regionOf};
+ghost use Rattle.metadata.specs.Dictionary.{cuts, regionRules, entryRules, checks};
 ghost use Rattle.metadata.specs.Steps.{LeadOf, PlacesOf, HeaderOf, HeadOf, Reached, EntryOf, foundOf, CheckedOf, SpanOf};
+ghost use Rattle.metadata.specs.Promises.{CheckPromise, GetPromise, WriteEmptyPromise};
 
 // The longest dictionary or object that is read.
 pub const LIMIT: usize = 65_536;
@@ -303,7 +304,7 @@ pub fn checked(dict: &[u8]) -> Head
 
 // The verdict on a dictionary.
 pub fn check(dict: &[u8]) -> Verdict
-    ensures { λ r. ⌜ verdictNumbers r ≡ verdict (now (dict .entry)) ⌝ }
+    ensures { λ r. ⌜ CheckPromise (now (dict .entry)) r ⌝ }
 {
     let head = checked(dict);
     match head {
@@ -330,7 +331,7 @@ pub fn span_of(dict: &[u8], h: Header, i: usize) -> Span
 
 // The name of entry number i.
 pub fn get(dict: &[u8], i: usize) -> Entry
-    ensures { λ r. ⌜ entryNumbers r ≡ nameAt (now (dict .entry)) i ⌝ }
+    ensures { λ r. ⌜ GetPromise (now (dict .entry)) i r ⌝ }
 {
     let head = checked(dict);
     match head {
@@ -346,8 +347,7 @@ pub fn get(dict: &[u8], i: usize) -> Entry
 
 // The empty dictionary, into the first three bytes of `room`.
 pub fn write_empty(room: &mut [u8]) -> Written
-    ensures { λ r. ⌜ writtenNumbers r ≡ emptied (now (room .entry)) ⌝ }
-    ensures { λ _. ⌜ now (room .exit) ≡ roomAfter (now (room .entry)) ⌝ }
+    ensures { λ r. ⌜ WriteEmptyPromise (now (room .entry)) r (now (room .exit)) ⌝ }
 {
     if room.len() < 3 {
         return Written::NoRoom;

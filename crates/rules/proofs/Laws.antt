@@ -11,7 +11,8 @@ use native.Mathlib.Numerals.{add-one}
 use native.Mathlib.Omega.{arith}
 use lib.Dec.{eqb}
 use borrow.Author.Tests.{lt-ltb, le-ltb, ltb-true, ltb-false, le-leb, lt-leb, leb-true, leb-false, eq-eqb, ne-eqb, eqb-true, eqb-false, not-true, not-false}
-use Rattle.rules.specs.Rules.{Answer, refuse, accept, codeOf, Test, Holds, Fails, holds, Rule, Found, first, each, _orElse_, _otherwise_, Passed, At, refusalAt, Rows, Stands, Kept, Stays, StopsAs, RefusedAs}
+use Rattle.rules.specs.Rules.{Answer, refuse, accept, codeOf, Test, Holds, Fails, holds, Rule, Found, first, each, _orElse_, _otherwise_}
+use Rattle.rules.specs.Rules.{Passed, At, refusalAt, Rows, Stands, Kept, Stays, StopsAs, RefusedAs}
 use Rattle.rules.specs.Rules.Answer.{gives}
 use Rattle.rules.specs.Rules.Test.{_<?_, _≤?_, _≠?_, is, isn't, _and_}
 use Rattle.rules.specs.Rules.Rule.{_⇒_at_}
@@ -150,6 +151,14 @@ pub turned-down : (f : Found) (n : ℕ) (v : List ℕ) {c p : ℕ} → (f otherw
 unfolding _otherwise_
 turned-down pass n v e = let z : _≡_ {A = ℕ} 0 1 = cc in absurd (omega arith)
 turned-down (stop c p) n v e = cc
+
+-- one more row after the checks: which of them stops
+pub last-row : (f : Found) (t : Test) (n q : ℕ) {c p : ℕ} → (f orElse first ((t ⇒ n at q) ∷ [])) ≡ stop c p
+    → (f ≡ stop c p) ⊎ ((f ≡ pass) × Holds t × (c ≡ n) × (p ≡ q))
+unfolding first _orElse_
+last-row pass t n q {c} {p} e =
+    by-test t (λ z. z ≡ stop c p → (pass ≡ stop c p) ⊎ ((pass ≡ pass) × Holds t × (c ≡ n) × (p ≡ q))) (λ h e. inr (refl, h, cc, cc)) (λ h e. inl e) e
+last-row (stop b r) t n q e = inl e
 
 -- A FAMILY OF TABLES, ENTRY BY ENTRY
 

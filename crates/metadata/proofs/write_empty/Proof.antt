@@ -16,7 +16,7 @@ unfolding emptied roomAfter
 write-empty-spec =
     tie.close
     (tie.spec
-    (λ c. (sym (refused _ (first-at 0 _ (c .if1 .taken))), rw (lt-ltb _ _ (c .if1 .taken))))  -- returns
+    (λ c. record { answers = sym (refused _ (first-at 0 _ (c .if1 .taken))); leaves = rw (lt-ltb _ _ (c .if1 .taken)) })  -- returns
     (λ c. search needs)  -- element-copy-out-room
     (λ c. search needs)  -- slice-write-room
     (λ c. search needs)  -- element-copy-out-room-2
@@ -26,4 +26,4 @@ write-empty-spec =
     (λ c. search needs)  -- same-length
     (λ c. let room = c .before .before .before .before .before .args .room .now in
     let enough : 3 ≤ length room = omega arith in
-    (sym (answered _ (first-pass _ (enough, tt))), rw (le-ltb _ _ enough) (sets-eq emptyBytes room 0 enough))))  -- returns-2
+    record { answers = sym (answered _ (first-pass _ (enough, tt))); leaves = rw (le-ltb _ _ enough) (sets-eq emptyBytes room 0 enough) }))  -- returns-2
