@@ -84,3 +84,17 @@ pub data Refusal (d : List ℕ) : ℕ → ℕ → Type 0 where
   bad-range : {k : ℕ} → Texted d → k < count d → ((j : ℕ) → j < k → GoodEntry d j) → (InRange d k → ⊥) → Refusal d 17 k
   not-above : {k : ℕ} → Texted d → k < count d → ((j : ℕ) → j < k → GoodEntry d j) → InRange d k → sorted d ≡ true → 0 < k
       → (Before (name d (k - 1)) (name d k) → ⊥) → Refusal d 18 k
+
+-- A NAME BY ITS NUMBER
+
+-- of an accepted dictionary, entry i stands from a to e
+pub record Named (d : List ℕ) (i a e : ℕ) : Type 0 where
+  pub accepted : Dictionary d (count d) (end d)
+  pub is-entry : i < count d
+  pub starts : a ≡ start d + offset d i
+  pub ends : e ≡ start d + offset d (i + 1)
+
+-- or the entry number is at or above the count
+pub record NoEntry (d : List ℕ) (i : ℕ) : Type 0 where
+  pub accepted : Dictionary d (count d) (end d)
+  pub beyond : count d ≤ i
