@@ -72,9 +72,10 @@ module _ (d : List ℕ) (i : ℕ) where
 
   pub no-entry : (nameAt d i ≡ refuse 31 0) ↔ NoEntry d i
   unfolding nameAt
-  no-entry =
-      (λ v. ⊎-elim (λ e. absurd (omega (arith, checks-code d e))) (λ w. record { accepted = good d (w .0); beyond = w .1 }) (stopped v),
-      λ n. refused _ (goes _ (all-pass d _ _ (n .accepted)) ∙ first-at 0 _ (n .beyond)))
+  no-entry = (
+    λ v. ⊎-elim (λ e. absurd (omega (arith, checks-code d e))) (λ w. record { accepted = good d (w .0); beyond = w .1 }) (stopped v),
+    λ n. refused _ (goes _ (all-pass d _ _ (n .accepted)) ∙ first-at 0 _ (n .beyond)),
+  )
 
   pub refused-is : (c p : ℕ) → (c ≡ 31 → ⊥) → (nameAt d i ≡ refuse c p) ↔ Refusal d c p
   unfolding nameAt

@@ -47,6 +47,10 @@ refusal-back is other (NotUtf8 p) = refl
 refusal-back is other (Range k) = refl
 refusal-back is other (NotAbove k) = refl
 
+-- the case that a number is
+pub by-number : (r : Refusal) {c : ℕ} → refusalNumber r ≡ c → r ≡ refusalBy (λ x. x) TooLong c (refusalPlace r)
+by-number r e = rw (← e) (sym (refusal-back (λ x. x) TooLong r))
+
 pub refusal-injective : (r q : Refusal) → refusalNumber r ≡ refusalNumber q → refusalPlace r ≡ refusalPlace q → r ≡ q
 refusal-injective r q c p =
     sym (refusal-back (λ x. x) TooLong r) ∙ ap₂ (refusalBy (λ x. x) TooLong) c p ∙ refusal-back (λ x. x) TooLong q
