@@ -1,5 +1,8 @@
 pub mod Laws
 pub mod Rows
 pub mod Listed
-pub mod Appended
+pub mod Lists
 pub mod Pinned
+pub mod Appended
+pub mod Cut
+pub mod Says

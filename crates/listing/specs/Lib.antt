@@ -1,3 +1,4 @@
 pub mod Words
+pub mod Meaning
 pub mod Answers
 pub mod Promises

@@ -3,7 +3,7 @@
 use mathlib.Core.Path.{_≡_, refl, _∙_}
 use mathlib.Core.Logic.{_↔_}
 use mathlib.Core.List.{List, [], _∷_}
-use Prim.Native.Nat.{ℕ, _≤_, _<_}
+use Prim.Native.Nat.{ℕ, _<_}
 use native.Mathlib.Omega.{arith}
 use Rattle.names.specs.Search.{Sought, seek}
 use Rattle.names.specs.Search.Sought.{nowhere, here}
@@ -11,33 +11,15 @@ use Rattle.names.proofs.Search as names
 use Rattle.rules.specs.Rules.{Found as Outcome, accept, refuse, _otherwise_}
 use Rattle.rules.specs.Rules.Found.{pass, stop}
 use Rattle.rules.proofs.Laws.{answered, refused, meant-stop}
-use Rattle.metadata.proofs.Refuses as dictionary-refuses
 use Rattle.object.specs.Object.{count, fieldName, checks}
 use Rattle.object.specs.Meaning.{Layer, Refusal}
-use Rattle.object.specs.Meaning.Refusal.{of-dictionary, too-long, empty, other-type, count-cut, offsets-sum, start-sum, start-short, end-sum, end-short, no-entry, not-above, past-region}
 use Rattle.object.proofs.Laws.{names-rise}
 use Rattle.lookup.proofs.Finds.{found-at}
 use Rattle.object.proofs.Means.{checks-mean, good}
 use Rattle.object.proofs.Accepts.{all-pass}
-use Rattle.object.proofs.Refuses.{is-due}
+use Rattle.object.proofs.Refuses.{is-due, checks-code}
 use Rattle.lookup.specs.ByName.{absent, found as foundFor, lookup}
 use Rattle.lookup.specs.Meaning.{Found, Absent}
-
--- every refusal's number is 10 or more, so none is taken for absent
-from-ten : (d o : List ℕ) {c p : ℕ} → Refusal d o c p → 10 ≤ c
-from-ten d o (of-dictionary r) = dictionary-refuses.from-ten d r
-from-ten d o (too-long r h) = omega arith
-from-ten d o (empty r h) = omega arith
-from-ten d o (other-type b h) = omega arith
-from-ten d o (count-cut b h) = omega arith
-from-ten d o (offsets-sum b h) = omega arith
-from-ten d o (start-sum b f h) = omega arith
-from-ten d o (start-short b f g h) = omega arith
-from-ten d o (end-sum b h) = omega arith
-from-ten d o (end-short b f h) = omega arith
-from-ten d o (no-entry h q g n) = omega arith
-from-ten d o (not-above h q g i z n) = omega arith
-from-ten d o (past-region m q g n) = omega arith
 
 module _ (d o q : List ℕ) where
   -- what was sought
@@ -69,7 +51,7 @@ module _ (d o q : List ℕ) where
       go pass e (here k) w v = let z : _≡_ {A = ℕ} 0 1 = cc in absurd (omega arith)
       go (stop c p) e s w v =
           let z : c ≡ 1 = cc in
-          let b = from-ten d o (meant-stop (checks-mean d o) e) in absurd (omega arith)
+          absurd (omega (arith, checks-code d o e))
 
   none-there : lookup d o q ≡ absent → Absent d o q
   none-there v =

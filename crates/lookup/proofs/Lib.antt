@@ -1,4 +1,6 @@
 pub mod Finds
 pub mod Found
-pub mod Appended
 pub mod Pinned
+pub mod Appended
+pub mod Cut
+pub mod Says

@@ -28,7 +28,7 @@ module _ (d : List ℕ) (m : ℕ) where
 
 -- THE THEOREMS
 module _ (d : List ℕ) (n e m : ℕ) (accepted : verdict d ≡ accept (n ∷ e ∷ [])) (cut : m < e) where
-  stopped : StopsAs 11 13 (checks (take m d))
+  pub stopped : StopsAs 11 13 (checks (take m d))
   unfolding verdict
   stopped =
       let through = let-through (checks d) (accept (count d ∷ end d ∷ [])) accepted in

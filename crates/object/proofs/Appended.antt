@@ -9,17 +9,27 @@ use borrow.Author.Tests.{ne-eqb}
 use lib.Dec.{eqb}
 use lib.ListN.{length, length-append, List·getD-append}
 use Rattle.width.proofs.Laws.{le-append-at}
-use Rattle.rules.specs.Rules.{Found, Kept, Stays, codeOf, first, each, _orElse_}
+use Rattle.rules.specs.Rules.{Found, Passed, Kept, Stays, codeOf, first, each, _orElse_}
 use Rattle.rules.specs.Rules.Found.{pass}
 use Rattle.rules.proofs.Laws.{_&_, false-true, passed, each-same, each-alike, kept, same-stays, stays-same, stays-more, stays-then, stays-answer}
 use Rattle.metadata.specs.Limits.{limit}
 use Rattle.metadata.specs.Dictionary as dictionary
 use Rattle.metadata.proofs.Means as dictionary-means
 use Rattle.metadata.proofs.Appended as dictionary-appended
+use Rattle.metadata.specs.declared.Header.{Header}
+use Rattle.metadata.specs.declared.Refusal as dictionary-refusal
+use Rattle.metadata.specs.declared.Head as dictionary-head
+use Rattle.metadata.specs.declared.Head.the-variants as dictionary-variants
+use Rattle.object.specs.declared.Layer.{Layer}
+use Rattle.object.specs.declared.Opening.{Opening}
+use Rattle.object.specs.declared.Opening.the-variants as opening
 use Rattle.object.specs.Object.{basicType, offsetWidth, idWidth, countWidth, count, idsStart, id, offsetsStart, offset, start, end, fieldName}
 use Rattle.object.specs.Object.{headRules, nameRules, offsetRules, checks, layer, verdict}
-use Rattle.object.proofs.Laws.{ids-before, offsets-before, id-inside, offset-inside}
-use Rattle.object.proofs.Means.{good}
+use Rattle.object.specs.Answers.{refusalNumber}
+use Rattle.object.specs.Steps.{LayerOf, OpeningOf}
+use Rattle.object.proofs.Laws.{start-before, ids-before, offsets-before, id-inside, offset-inside}
+use Rattle.object.proofs.Means.{head-passed, good}
+use Rattle.object.proofs.Pinned.{open-pinned}
 
 -- the object's refusals that more bytes may lift, empty and short; and the dictionary's with them
 abbrev pub liftedHere : ℕ → Bool
@@ -38,6 +48,14 @@ pub record Settled (c : ℕ) : Type 0 where
 pub unlifted : (c : ℕ) → Settled c → lifted c ≡ false
 unlifted c s =
     rw (ne-eqb c 11 (s .not-empty-dictionary), ne-eqb c 13 (s .not-short-dictionary), ne-eqb c 21 (s .not-empty), ne-eqb c 23 (s .not-short))
+
+-- the number of what `open` answers
+abbrev pub openingCode : Opening → ℕ
+openingCode (opening.Refused r) = refusalNumber r
+openingCode (opening.Open m) = 0
+
+never : {h : Header} {q : dictionary-refusal.Refusal} → _≡_ {A = dictionary-head.Head} (dictionary-variants.Good h) (dictionary-variants.Refused q) → ⊥
+never e = let z : _≡_ {A = ℕ} 0 1 = cc in omega arith
 
 neither : (a b : Bool) → (a || b) ≡ false → (a ≡ false) × (b ≡ false)
 neither false b e = (refl, e)
@@ -116,7 +134,7 @@ module _ (o u : List ℕ) where
     layer-same = rw (count-same counted, start-same counted, end-same)
 
   -- THE HEADER'S CHECKS, one by one
-  head-kept : length (o ++ u) ≤ limit → Kept liftedHere (headRules o) (headRules (o ++ u))
+  pub head-kept : length (o ++ u) ≤ limit → Kept liftedHere (headRules o) (headRules (o ++ u))
   head-kept l =
       let more = length-append o u in
       omega arith & λ f20.
@@ -186,3 +204,38 @@ module _ (d t o u : List ℕ) where
     unfolding verdict
     verdict-appended s =
         stays-answer lifted (checks d o) (checks (d ++ t) (o ++ u)) _ _ checks-kept (λ e. let g = good d o e in layer-same o u (omega arith)) (unlifted _ s)
+
+    -- `open`: what it answered to the fewer bytes meets its promise for the more, and so it answers that
+    layer-kept : (l : Layer) → end o ≤ length o → Passed (headRules (o ++ u)) → LayerOf o l → LayerOf (o ++ u) l
+    layer-kept l h p k =
+        let placed : start o ≤ length o = omega (arith, start-before o) in
+        let counts = counted o u placed in
+        record {
+          passes = p;
+          id-width-is = omega (arith, id-width-same o u (some o u counts));
+          id-some = k .id-some;
+          id-few = k .id-few;
+          offset-width-is = omega (arith, offset-width-same o u (some o u counts));
+          offset-some = k .offset-some;
+          offset-few = k .offset-few;
+          count-is = omega (arith, count-same o u counts);
+          ids-is = omega (arith, ids-same o u (some o u counts));
+          offsets-is = omega (arith, offsets-same o u counts);
+          start-is = omega (arith, start-same o u counts);
+          end-is = omega (arith, end-same o u placed);
+          rises = k .rises;
+        }
+
+    pub open-kept : (r : Opening) → Settled (openingCode r) → OpeningOf d o r → OpeningOf (d ++ t) (o ++ u) r
+    open-kept (opening.Refused q) s e = (rw e at checks-kept) (unlifted _ s)
+    open-kept (opening.Open m) s k =
+        let passing : checks (d ++ t) (o ++ u) ≡ pass = rw (k .passes) at checks-kept in
+        let all = good (d ++ t) (o ++ u) passing in
+        record {
+          over = dictionary-appended.checked-kept d t (dictionary-variants.Good (m .header)) dictionary-limit (λ w. never w) (λ w. never w) (k .over);
+          layered = layer-kept (m .layer) (good d o (k .passes) .named .headed .end-inside) (head-passed (d ++ t) (o ++ u) (all .named .headed)) (k .layered);
+          passes = passing;
+        }
+
+    pub open-appended : (r r′ : Opening) → Settled (openingCode r) → OpeningOf d o r → OpeningOf (d ++ t) (o ++ u) r′ → r′ ≡ r
+    open-appended r r′ s a b = open-pinned (d ++ t) (o ++ u) r′ r b (open-kept r s a)

@@ -1,34 +1,49 @@
--- An accepted object, cut anywhere before its trimmed end, is refused as empty or short over the same dictionary. Assumes nothing.
-use mathlib.Core.Path.{_≡_, _∙_}
-use mathlib.Core.Logic.{_⊎_}
-use mathlib.Core.List.{List, [], _∷_, append-nil}
+-- An accepted dictionary cut anywhere before its trimmed end makes the layer empty or short at place 0, 11 or 13; an accepted object cut
+-- likewise, 21 or 23. Assumes nothing.
+use mathlib.Core.Path.{_≡_}
+use mathlib.Core.List.{List, [], _∷_}
 use Prim.Native.Nat.{ℕ, _<_}
 use native.Mathlib.Omega.{arith}
 use lib.ListN.{take, drop, length-take, take-append-drop}
-use Rattle.rules.specs.Rules.{Stays, accept, codeOf}
+use Rattle.rules.specs.Rules.{Kept, accept, first, StopsAs, RefusedAs}
 use Rattle.rules.specs.Rules.Found.{pass}
-use Rattle.rules.proofs.Laws.{let-through, both-pass, goes, cut-lifted, which}
+use Rattle.rules.proofs.Laws.{let-through, passed, cut-stops, stops-first, stops-next, refused-as}
 use Rattle.metadata.specs.Dictionary as dictionary
-use Rattle.object.specs.Object.{end, checks, layer, verdict}
+use Rattle.metadata.proofs.Cut.{stopped}
+use Rattle.object.specs.Object.{end, headRules, checks, layer, verdict}
+use Rattle.object.proofs.Laws.{passes}
 use Rattle.object.proofs.Means.{good}
-use Rattle.object.proofs.Appended.{liftedHere, own, end-same, own-kept}
+use Rattle.object.proofs.Appended.{liftedHere, end-same, head-kept}
 
--- what passes reaches its trimmed end, and the bytes after do not move that
-too-short : (d o : List ℕ) (m : ℕ) → m < end o → checks d (take m o) ≡ pass → ⊥
-too-short d o m p e =
-    let g = good d (take m o) e in
+-- THE DICTIONARY CUT: its checks stop, and what comes after does not matter
+module _ (d o : List ℕ) (n e m : ℕ) (accepted : dictionary.verdict d ≡ accept (n ∷ e ∷ [])) (cut : m < e) where
+  pub dictionary-stopped : StopsAs 11 13 (checks (take m d) o)
+  unfolding checks
+  dictionary-stopped = stops-first (stopped d n e m accepted cut) _
+
+  pub dictionary-cut : RefusedAs 11 13 (verdict (take m d) o)
+  unfolding verdict
+  dictionary-cut = refused-as dictionary-stopped _
+
+-- THE OBJECT CUT
+
+-- a header that passes reaches its trimmed end, and the bytes after do not move that
+too-short : (o : List ℕ) (m : ℕ) → m < end o → first (headRules (take m o)) ≡ pass → ⊥
+too-short o m p e =
+    let head = passed (headRules (take m o)) e in
     omega (arith, length-take m o, rw take-append-drop at (end-same (take m o) (drop m o) (omega arith)))
 
--- THE THEOREM
-pub cut : (d o : List ℕ) (n v e m : ℕ) → verdict d o ≡ accept (n ∷ v ∷ e ∷ []) → m < e
-    → (codeOf (verdict d (take m o)) ≡ 21) ⊎ (codeOf (verdict d (take m o)) ≡ 23)
-unfolding verdict checks
-cut d o n v e m a p =
-    let through = let-through (checks d o) (layer o) a in
-    let e-is : e ≡ end o = cc in
-    let g = good d o (through .0) in
-    let both = both-pass (dictionary.checks d) (own d o) (through .0) in
-    let stays : Stays liftedHere (own d (take m o)) (own d o) =
-    rw (take-append-drop m o, append-nil d) at (own-kept d [] (take m o) (drop m o) (both .0) (rw take-append-drop (omega arith))) in
-    let short : own d (take m o) ≡ pass → ⊥ = λ w. too-short d o m (omega arith) (goes _ (both .0) ∙ w) in
-    which 21 23 _ (rw (goes (own d (take m o)) (both .0)) (cut-lifted liftedHere (own d (take m o)) (own d o) _ stays (both .1) short))
+module _ (d o : List ℕ) (n v e m : ℕ) (accepted : verdict d o ≡ accept (n ∷ v ∷ e ∷ [])) (cut : m < e) where
+  pub object-stopped : StopsAs 21 23 (checks d (take m o))
+  unfolding verdict checks
+  object-stopped =
+      let through = let-through (checks d o) (layer o) accepted in
+      let e-is : e ≡ end o = cc in
+      let all = passes d o (through .0) in
+      let g = good d o (through .0) in
+      let stays : Kept liftedHere (headRules (take m o)) (headRules o) = rw take-append-drop at (head-kept (take m o) (drop m o) (rw take-append-drop (omega arith))) in
+      stops-next (all .over) (stops-first (cut-stops 21 23 (headRules (take m o)) (headRules o) (omega arith) stays (all .header) (too-short o m (omega arith))) _)
+
+  pub object-cut : RefusedAs 21 23 (verdict d (take m o))
+  unfolding verdict
+  object-cut = refused-as object-stopped _

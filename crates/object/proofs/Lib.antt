@@ -3,7 +3,8 @@ pub mod ByIds
 pub mod Means
 pub mod Accepts
 pub mod Refuses
+pub mod Pinned
 pub mod Appended
 pub mod Cut
-pub mod Pinned
+pub mod Says
 pub mod Fits

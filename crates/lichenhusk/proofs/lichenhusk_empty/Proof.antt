@@ -15,7 +15,7 @@ lichenhusk-empty-spec =
     (λ c. search needs)  -- enum-told-2
     (λ c. search needs)  -- same-length
     (λ c. let e = c .before .before .before .before .write-empty .ensures in
-    record { returns = ap codeOf (sym (ap writtenNumbers (c .enum-told .given .1)) ∙ e .0); leaves = e .1 })  -- returns
+    record { returns = ap codeOf (sym (ap writtenNumbers (c .enum-told .given .1)) ∙ e .answers); leaves = e .leaves })  -- returns
     (λ c. search needs)  -- same-length-2
     (λ c. let e = c .before .before .before .before .write-empty .ensures in
-    record { returns = ap codeOf (sym (ap writtenNumbers (c .enum-told2 .given .1)) ∙ e .0); leaves = e .1 }))  -- returns-2
+    record { returns = ap codeOf (sym (ap writtenNumbers (c .enum-told2 .given .1)) ∙ e .answers); leaves = e .leaves }))  -- returns-2

@@ -1,0 +1,50 @@
+-- What the code's own answers say: each case of what a call returns, exactly when, in the words of specs/Meaning.antt. An answer that meets
+-- the call's promise is meant. Assumes nothing.
+use mathlib.Core.Path.{_≡_}
+use mathlib.Core.Bool.{true, false}
+use mathlib.Core.Logic.{_↔_}
+use mathlib.Core.List.{List}
+use Prim.Native.Nat.{ℕ}
+use denote.Ref.{RefT}
+use Rattle.rules.specs.Rules.{_otherwise_}
+use Rattle.rules.proofs.Laws.{swap, false-true}
+use Rattle.metadata.proofs.Pinned.{refusalBy as dictionaryBy}
+use Rattle.object.specs.declared.Refusal.{Refusal}
+use Rattle.object.specs.Answers.{refusalNumber, refusalPlace}
+use Rattle.object.specs.Meaning.{Refusal as Due}
+use Rattle.object.proofs.Refuses.{is-due}
+use Rattle.object.proofs.Pinned.{refusalBy, refusal-back}
+use Rattle.lookup.specs.declared.Lookup.the-variants as lookup
+use Rattle.lookup.specs.ByName.{lookup as lookupOf}
+use Rattle.lookup.specs.Meaning.{Found, Absent}
+use Rattle.lookup.specs.Answers.{PartOf}
+use Rattle.lookup.specs.Promises.{GetPromise, ChildPromise}
+use Rattle.lookup.proofs.Found.{found, absent-is, refused-is}
+
+-- no case of a refusal has the number of "absent"
+not-absent : (r : Refusal) → refusalNumber r ≡ 1 → ⊥
+unfolding refusalBy dictionaryBy
+not-absent r e = false-true (rw e at (refusal-back (λ _. true) false r))
+
+-- `get`
+module _ (d o q : List ℕ) where
+  pub get-found : (k a e : ℕ) → GetPromise d o q (lookup.Found k a e) ↔ Found d o q k a e
+  get-found k a e = swap (found d o q k a e)
+
+  pub get-absent : GetPromise d o q lookup.Absent ↔ Absent d o q
+  get-absent = swap (absent-is d o q)
+
+  pub get-refused : (r : Refusal) → GetPromise d o q (lookup.Refused r) ↔ Due d o (refusalNumber r) (refusalPlace r)
+  get-refused r = swap (refused-is d o q (refusalNumber r) (refusalPlace r) (not-absent r))
+
+-- `child`: the part where it was found; on absence or refusal the empty part at the object's start
+module _ (d : List ℕ) (object : RefT (List ℕ)) (q : List ℕ) (r : RefT (List ℕ)) (promised : ChildPromise d object q r) where
+  pub child-found : (k a e : ℕ) → Found d (object .now) q k a e → PartOf object r a e
+  child-found k a e f = rw (found d (object .now) q k a e .1 f) at promised
+
+  pub child-absent : Absent d (object .now) q → PartOf object r 0 0
+  child-absent f = rw (absent-is d (object .now) q .1 f) at promised
+
+  pub child-refused : (c p : ℕ) → Due d (object .now) c p → PartOf object r 0 0
+  unfolding lookupOf _otherwise_
+  child-refused c p due = rw (is-due d (object .now) due) at promised
