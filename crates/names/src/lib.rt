@@ -1,7 +1,7 @@
 // Names in order, as the Rust compares `str`: byte by byte, unsigned, and a proper prefix first.
 ghost use mathlib.Core.Path.{_≡_};
 ghost use Prim.Native.Nat.{min};
-ghost use Rattle.names.specs.Order.{compareOf, below};
+ghost use Rattle.names.specs.Promises.{ComparePromise, IsBelowPromise};
 
 pub enum Order {
     Less,
@@ -17,7 +17,7 @@ fn least(a: usize, b: usize) -> usize
 
 // Both are read up to the length of the shorter one; where they agree that far, the lengths decide.
 pub fn compare(a: &[u8], b: &[u8]) -> Order
-    ensures { λ r. ⌜ r ≡ compareOf (now (a .entry)) (now (b .entry)) ⌝ }
+    ensures { λ r. ⌜ ComparePromise (now (a .entry)) (now (b .entry)) r ⌝ }
 {
     let shared = least(a.len(), b.len());
     let mut i = 0;
@@ -43,7 +43,7 @@ pub fn compare(a: &[u8], b: &[u8]) -> Order
 
 // Whether `a` comes before `b`.
 pub fn is_below(a: &[u8], b: &[u8]) -> bool
-    ensures { λ r. ⌜ r ≡ below (now (a .entry)) (now (b .entry)) ⌝ }
+    ensures { λ r. ⌜ IsBelowPromise (now (a .entry)) (now (b .entry)) r ⌝ }
 {
     let order = compare(a, b);
     match order {

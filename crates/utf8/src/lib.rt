@@ -1,7 +1,8 @@
 // Well-formed UTF-8 by RFC 3629 (utils.rs: string_from_slice, which calls the library's from_utf8).
 ghost use mathlib.Core.Path.{_≡_};
 ghost use lib.ListN.{drop};
-ghost use Rattle.utf8.specs.Utf8.{leadOf, tailsOf, char, textUpTo};
+ghost use Rattle.utf8.specs.Utf8.{leadOf, tailsOf, char};
+ghost use Rattle.utf8.specs.Promises.{ValidLenPromise};
 
 // What a first byte asks: `rest` bytes after it, the first of those from `lo` to `hi`.
 enum Lead {
@@ -88,7 +89,7 @@ fn char_at(s: &[u8], at: usize) -> usize
 // The length of the longest well-formed text that `s` starts with. Each turn passes one character or more: a turn that passes several
 // keeps this promise too.
 pub fn valid_len(s: &[u8]) -> usize
-    ensures { λ r. ⌜ r ≡ textUpTo (now (s .entry)) ⌝ }
+    ensures { λ r. ⌜ ValidLenPromise (now (s .entry)) r ⌝ }
 {
     let mut at = 0;
     loop {

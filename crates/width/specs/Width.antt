@@ -1,19 +1,13 @@
 -- Numbers of w bytes, little-endian (document 01, "Dictionary bytes"; VariantEncoding.md, "Metadata encoding": all of them unsigned, the
 -- least significant byte first). One definition over the width. Assumes nothing.
-use mathlib.Core.Path.{_≡_}
 use mathlib.Core.List.{List, [], _∷_}
-use Prim.Native.Nat.{ℕ, zero, suc, _+_, _*_, _%_, _/_, _<_}
+use Prim.Native.Nat.{ℕ, zero, suc, _+_, _*_, _%_, _/_}
 
 -- the number that the first w bytes spell; bytes that are not there read as 0
 unfoldable pub le : ℕ → List ℕ → ℕ
 le zero s = 0
 le (suc w) [] = 0
 le (suc w) (b ∷ s) = b + 256 * le w s
-
--- what the reader answers: the number, which fits 32 bits
-pub record Unpacked (w : ℕ) (s : List ℕ) (r : ℕ) : Type 0 where
-  pub is : r ≡ le w s
-  pub fits : r < 4294967296
 
 -- THE OTHER WAY: the w bytes that spell a number, the least significant first; of a number that is too large, its low bytes
 unfoldable pub bytesOf : ℕ → ℕ → List ℕ

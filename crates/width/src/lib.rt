@@ -1,13 +1,11 @@
 // Little-endian numbers of one to four bytes (decoder.rs: OffsetSizeBytes).
-ghost use mathlib.Core.Path.{_≡_};
-ghost use Prim.Native.Nat.{_+_, _≤_, _<_};
-ghost use lib.ListN.{length, drop};
-ghost use lib.Seq.{sets};
-ghost use Rattle.width.specs.Width.{Unpacked, bytesOf};
+ghost use Prim.Native.Nat.{_+_, _≤_};
+ghost use lib.ListN.{length};
+ghost use Rattle.width.specs.Promises.{WidePromise, UnpackPromise, PackPromise};
 
 // A byte as a number, with its bound.
 pub fn wide(x: u8) -> usize
-    ensures { λ r. ⌜ (r ≡ x) × (r < 256) ⌝ }
+    ensures { λ r. ⌜ WidePromise x r ⌝ }
 {
     x as usize
 }
@@ -16,7 +14,7 @@ pub fn wide(x: u8) -> usize
 // that is faster than a loop, and every step is the same law.
 pub fn unpack_u32(s: &[u8], at: usize, width: usize) -> usize
     requires { ⌜ (1 ≤ width) × (width ≤ 4) × (at + width ≤ length (now s)) ⌝ }
-    ensures { λ r. ⌜ Unpacked width (drop at (now (s .entry))) r ⌝ }
+    ensures { λ r. ⌜ UnpackPromise (now (s .entry)) at width r ⌝ }
 {
     let one = wide(s[at]);
     if width == 1 {
@@ -36,7 +34,7 @@ pub fn unpack_u32(s: &[u8], at: usize, width: usize) -> usize
 // The low 32 bits of a number, into the four bytes at `at`, the lowest byte first.
 pub fn pack_u32(out: &mut [u8], at: usize, n: usize)
     requires { ⌜ at + 4 ≤ length (now out) ⌝ }
-    ensures { λ _. ⌜ now (out .exit) ≡ sets (now (out .entry)) at (bytesOf 4 n) ⌝ }
+    ensures { λ _. ⌜ PackPromise (now (out .entry)) at n (now (out .exit)) ⌝ }
 {
     let second = n / 256;
     let third = second / 256;

@@ -1,0 +1,14 @@
+-- Each promise fixes the answer, or the lent bytes after the call: two that meet it are equal. Assumes nothing.
+use mathlib.Core.Path.{_≡_, sym, _∙_}
+use mathlib.Core.List.{List}
+use Prim.Native.Nat.{ℕ}
+use Rattle.width.specs.Promises.{WidePromise, UnpackPromise, PackPromise}
+
+pub wide-pinned : (x r q : ℕ) → WidePromise x r → WidePromise x q → r ≡ q
+wide-pinned x r q a b = a .0 ∙ sym (b .0)
+
+pub unpack-pinned : (s : List ℕ) (at width r q : ℕ) → UnpackPromise s at width r → UnpackPromise s at width q → r ≡ q
+unpack-pinned s at width r q a b = a .is ∙ sym (b .is)
+
+pub pack-pinned : (out : List ℕ) (at n : ℕ) (r q : List ℕ) → PackPromise out at n r → PackPromise out at n q → r ≡ q
+pack-pinned out at n r q a b = a ∙ sym b
