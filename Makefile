@@ -5,7 +5,7 @@
 # The command, proved and built, on document 01's dictionary and object.
 run:
 	@rt check variant >/dev/null || { rt check variant; exit 1; }
-	@target/bin/variant
+	@bin/variant
 
 # First what needs Rust, so that the very last line is rt ci's own.
 test: host
