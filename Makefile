@@ -16,9 +16,14 @@ host: archive
 	@rust/run.sh host
 	@rust/run.sh short
 
-# The archive that C and Rust link.
+# The archive that C and Rust link. rt's own is for x86-64.
+ifeq ($(shell uname -m),x86_64)
 archive:
 	@rt staticlib lichenhusk >/dev/null || { rt staticlib lichenhusk; exit 1; }
+else
+archive:
+	@rust/native_archive.sh
+endif
 
 # The comparison on a million inputs and more.
 differential: archive

@@ -1,16 +1,19 @@
 #!/usr/bin/env bash
-# Makes an archive like that of `rt staticlib strip`, for the processor at hand.
+# Makes an archive like that of `rt staticlib lichenhusk`, for the processor at hand.
 #
-#   native_archive.sh [OUT [MACHINE]]    OUT: target/native/libstrip.a; MACHINE: as uname -m says
+#   native_archive.sh [OUT [MACHINE]]
+#
+# OUT: target/native/liblichenhusk.a, where the host's crate looks; MACHINE: as uname -m says.
 #
 # `rt staticlib` compiles for x86-64 alone. Here its LLVM module is kept and compiled once more with
 # the same flags. For aarch64, three things in the module's text are changed before: the target
-# triple, the data layout and the processor's attributes. This is for tests and measurement: what
-# is proved stops at the module as it was. The exported functions take pointers and 64-bit numbers
-# and return 32-bit ones. A copy of the repository is worked on: of target/, only OUT is written.
+# triple, the data layout and the processor's attributes. What is proved stops at the module as it
+# was; that the changed one says the same is tested. The exported functions take pointers and 64-bit
+# numbers and return 32-bit ones.
 #
-# Tested on x86-64: the archive for x86-64 has the very bytes of rt's own, and the host's tests pass
-# with it; the changed text compiles for aarch64. Nothing was linked or run on an aarch64 machine.
+# Tested: the archive for x86-64 has the very bytes of rt's own, made on either processor. On an
+# aarch64 machine, with the retargeted one, the host's tests pass, and so do the header's example
+# and the short comparison.
 set -eu
 
 die() {
@@ -20,7 +23,7 @@ die() {
 
 command -v rt >/dev/null || die "no rt is here"
 root=$(cd "$(dirname "$0")/.." && pwd -P)
-out=${1:-$root/target/native/libstrip.a}
+out=${1:-$root/target/native/liblichenhusk.a}
 here=$(uname -m)
 machine=${2:-$here}
 kit=$(cd "${RATTLE_HOME:-$(dirname "$(readlink -f "$(command -v rt)")")/..}" && pwd -P)
@@ -31,6 +34,12 @@ mkdir -p "$(dirname "$out")"
 out=$(cd "$(dirname "$out")" && pwd -P)/$(basename "$out")
 room=$(mktemp -d)
 trap 'rm -rf "$room"' EXIT
+
+quietly() { "$@" >"$room/said" 2>&1 || { cat "$room/said" >&2 && die "$* failed"; }; }
+
+# What is not proved yet is proved in the repository, where rt keeps it for the next time.
+cd "$root"
+quietly rt check lichenhusk
 
 # A kit of links to the kit, but for its clang.
 links() { # FOLDER NAME: to all in the kit's FOLDER but NAME
@@ -50,13 +59,12 @@ printf '%s\n' "\$@" >'$room/words' && cp module.bc '$room' && exec '$kit/$tools/
 END
 chmod +x "$room/kit/$tools/clang"
 
-# Stamps first and sources last: what someone changes meanwhile is proved again.
+# That kit works on a copy, so that nothing of it gets into target/. Stamps first and sources last:
+# what someone changes meanwhile is proved again.
 mkdir -p "$room/repo/target"
-for part in target/stamp target/rlib crates.txt crates; do
-  [ ! -e "$root/$part" ] || cp -R "$root/$part" "$room/repo/$part"
-done
-(cd "$room/repo" && RATTLE_HOME=$room/kit rt staticlib strip) >"$room/said" 2>&1 ||
-  { cat "$room/said" >&2 && die "rt staticlib strip failed"; }
+for part in target/stamp target/rlib crates.txt crates; do cp -R "$root/$part" "$room/repo/$part"; done
+cd "$room/repo"
+RATTLE_HOME=$room/kit quietly rt staticlib lichenhusk
 
 cd "$room"
 clang() { "$kit/$tools/clang" "$@"; }
@@ -72,8 +80,8 @@ if [ "$machine" = aarch64 ]; then
   sed -i -e 's/^--target=.*/--target=aarch64-unknown-linux-gnu/' -e '/^-march=/d' words
   ! grep x86 module.ll >&2 || die "the module still speaks of x86"
 fi
-mapfile -t words < <(sed -e 's/^module\.bc$/module.ll/' -e 's/^module\.o$/strip.o/' words)
+mapfile -t words < <(sed -e 's/^module\.bc$/module.ll/' -e 's/^module\.o$/lichenhusk.o/' words)
 clang "${words[@]}"
-"$kit/$tools/llvm-ar" rcsD libstrip.a strip.o
-cp libstrip.a "$out"
-echo "$out: rt's module of strip, $made, for tests and measurement; what is proved stops at the module"
+"$kit/$tools/llvm-ar" rcsD liblichenhusk.a lichenhusk.o
+cp liblichenhusk.a "$out"
+echo "${out#"$root/"}: rt's module of lichenhusk, $made; what is proved stops at the module"

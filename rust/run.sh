@@ -7,7 +7,8 @@
 #   run.sh replay N   answers of the Rust's, N lines at most, on standard output
 #   run.sh bench      the clock
 #
-# What cannot be run for want of cargo or of the Rust's source is skipped, and said so in one line.
+# Each takes the archive that is there: make archive makes it. What cannot be run for want of cargo
+# or of the Rust's source is skipped, and said so in one line.
 set -eu
 task=${1:-}
 [ $# -eq 0 ] || shift
@@ -30,16 +31,7 @@ has_source() {
   export LICHENHUSK_RUST_SOURCE
 }
 
-# The archive of rt staticlib is for x86-64. Elsewhere its module is compiled for the processor.
-has_archive() {
-  [ "$(uname -m)" != x86_64 ] && [ -z "${LICHENHUSK_ARCHIVE:-}" ] || return 0
-  ./native_archive.sh >&2
-  LICHENHUSK_ARCHIVE=$(cd .. && pwd)/target/native/libstrip.a
-  export LICHENHUSK_ARCHIVE
-}
-
 quietly() {
-  has_archive
   cargo "$@" --quiet --locked --offline
 }
 
@@ -76,7 +68,7 @@ case $task in
     target/measured/bench
     ;;
   *)
-    sed -n '2,10p' "$0" | cut -c3- >&2
+    sed -n '2,11p' run.sh | cut -c3- >&2
     exit 2
     ;;
 esac

@@ -1,49 +1,43 @@
 //! Finds the archive of the proved functions and has it linked.
 //!
-//! `LICHENHUSK_ARCHIVE` names the archive's file. Without it, it is looked for where
-//! `rt staticlib strip` writes it in this repository.
+//! `LICHENHUSK_ARCHIVE` names the archive's file. Without it, it is looked for where this
+//! repository's commands write it: `rt staticlib lichenhusk` for x86-64, and
+//! `rust/native_archive.sh` elsewhere, which has the same module compiled for the processor.
 
 use std::env;
 use std::path::{Path, PathBuf};
 use std::process::exit;
 
 const VARIABLE: &str = "LICHENHUSK_ARCHIVE";
-const DEFAULT: &str = "../../target/staticlib/libstrip.a";
 
 fn main() {
     println!("cargo::rerun-if-changed=build.rs");
     println!("cargo::rerun-if-env-changed={VARIABLE}");
-    let archive = match env::var_os(VARIABLE) {
-        Some(path) => PathBuf::from(path),
-        None => default_archive(),
-    };
+    let (made, command) = of_this_repository();
+    let archive = env::var_os(VARIABLE).map_or(made, PathBuf::from);
     println!("cargo::rerun-if-changed={}", archive.display());
     if let Ok(archive) = archive.canonicalize() {
         link(&archive);
     } else {
         refuse(&[
             format!("There is no archive at {}.", archive.display()),
-            "Make it with `rt staticlib strip` in the repository's root,".into(),
+            format!("Make it with `{command}` in the repository's root,"),
             format!("or set {VARIABLE} to the archive's file."),
         ]);
     }
 }
 
-/// The archive of this repository, which is for x86-64 alone.
-fn default_archive() -> PathBuf {
+/// Where the archive for the target's processor stands, and the command that makes it.
+fn of_this_repository() -> (PathBuf, &'static str) {
     let target = env::var("CARGO_CFG_TARGET_ARCH").unwrap_or_default();
-    if target != "x86_64" {
-        refuse(&[
-            format!(
-                "`rt staticlib strip` makes an archive for x86-64, which does not link on {target}."
-            ),
-            "For tests and measurement on another processor, have the same module compiled for it"
-                .into(),
-            format!("and set {VARIABLE} to that archive's file."),
-        ]);
-    }
+    let (folder, command) = match target.as_str() {
+        "x86_64" => ("staticlib", "rt staticlib lichenhusk"),
+        _ => ("native", "rust/native_archive.sh"),
+    };
     let here = env::var_os("CARGO_MANIFEST_DIR").expect("cargo sets it for build scripts");
-    Path::new(&here).join(DEFAULT)
+    let root = Path::new(&here).join("../..");
+    let archive = root.join("target").join(folder).join("liblichenhusk.a");
+    (archive, command)
 }
 
 fn link(archive: &Path) {

@@ -6,7 +6,9 @@
 //! does not look into the children: a child is handed back as bytes of the object.
 //!
 //! Each call checks what it is lent from the start, and keeps and copies nothing. Any bytes may
-//! be lent; what is wrong with them is a [`Refusal`] with a number and a place.
+//! be lent; what is wrong with them is a [`Refusal`] with a number and a place. What a C caller
+//! must see to (no null pointer, no shared memory, alignment), a slice brings with it; [`raw`]
+//! says how. The functions called are proved; this crate around them is tested.
 //!
 //! ```
 //! // A sorted dictionary of "flow" and "roll", and an object that has both.
