@@ -1,6 +1,9 @@
 # make run: the main job on an embedded sample. make test: everything that must pass.
+# make install PREFIX=..: the header, the archive and lichenhusk.pc, for C.
 
-.PHONY: run test host archive differential bench
+.PHONY: run test host archive install differential bench
+
+PREFIX = /usr/local
 
 # The command, proved and built, on document 01's dictionary and object.
 run:
@@ -11,19 +14,33 @@ run:
 test: host
 	@rt ci
 
-# The host's crate and a short comparison with the original, where cargo and its source are there.
+# The host's crate, C's way to the archive, and a short comparison with the original; each where
+# what it needs is there.
 host: archive
 	@rust/run.sh host
+	@rust/run.sh installed
 	@rust/run.sh short
 
 # The archive that C and Rust link. rt's own is for x86-64.
 ifeq ($(shell uname -m),x86_64)
+ARCHIVE = target/staticlib/liblichenhusk.a
 archive:
 	@rt staticlib lichenhusk >/dev/null || { rt staticlib lichenhusk; exit 1; }
 else
+ARCHIVE = target/native/liblichenhusk.a
 archive:
 	@rust/native_archive.sh
 endif
+
+# Header, archive and lichenhusk.pc below PREFIX. The version is that of the host's crate.
+install: archive
+	@case "$(PREFIX)" in /*) ;; *) echo "PREFIX must be a full path, not $(PREFIX)" >&2; exit 1 ;; esac
+	install -d "$(DESTDIR)$(PREFIX)/include" "$(DESTDIR)$(PREFIX)/lib/pkgconfig"
+	install -m 644 include/lichenhusk.h "$(DESTDIR)$(PREFIX)/include"
+	install -m 644 $(ARCHIVE) "$(DESTDIR)$(PREFIX)/lib"
+	version=$$(sed -n 's/^version = "\(.*\)"$$/\1/p' rust/Cargo.toml) && \
+	  sed -e 's|@PREFIX@|$(PREFIX)|' -e "s|@VERSION@|$$version|" include/lichenhusk.pc.in | \
+	  install -m 644 /dev/stdin "$(DESTDIR)$(PREFIX)/lib/pkgconfig/lichenhusk.pc"
 
 # The comparison on a million inputs and more.
 differential: archive

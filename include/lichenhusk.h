@@ -5,11 +5,13 @@
  * "metadata") and a value. These functions read the dictionary and one layer
  * of an object; they do not look into the object's children.
  *
- * Every function takes any bytes at all, keeps nothing, allocates nothing and
- * ends. It reads only the buffers that it is handed, and writes only what is
- * said here. That much, and each answer below, is proved of the code.
+ * Every function takes whatever bytes its buffers hold, keeps nothing,
+ * allocates nothing and ends. It reads only the buffers that it is handed, and
+ * writes only what is said here. That much, and each answer below, is proved of
+ * the code.
  *
- * What a caller must see to:
+ * Nothing is asked of the bytes. What a caller must see to is about the
+ * pointers, and the proof takes it for granted:
  *
  *   - A buffer is a pointer and a length. The pointer must not be null, not
  *     even for a length of 0: any other pointer will do there, say the address
@@ -67,9 +69,15 @@
  *   }
  *
  * It prints "field 0, bytes 8 to 10". The functions are in the archive
- * target/staticlib/libstrip.a, which `rt staticlib strip` makes for x86-64:
+ * liblichenhusk.a. `make install PREFIX=..` puts it below a prefix, with this
+ * header and a lichenhusk.pc, and then
  *
- *   cc -Iinclude example.c target/staticlib/libstrip.a -o example
+ *   cc example.c $(pkg-config --cflags --libs lichenhusk) -o example
+ *
+ * builds the example. For x86-64 the archive is target/staticlib/liblichenhusk.a
+ * of the repository, which `rt staticlib lichenhusk` makes. For aarch64 it is
+ * target/native/liblichenhusk.a: `rust/native_archive.sh` has the same LLVM
+ * module compiled for that processor. What is proved stops at the module.
  */
 #ifndef LICHENHUSK_H
 #define LICHENHUSK_H

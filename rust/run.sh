@@ -2,13 +2,14 @@
 # What can be run here, one word each: see README.md.
 #
 #   run.sh host       the host's tests
+#   run.sh installed  the header's example, with what make install puts into a prefix
 #   run.sh short      the comparison's own tests, and a comparison that takes less than a minute
 #   run.sh long       millions of inputs
 #   run.sh replay N   answers of the Rust's, N lines at most, on standard output
 #   run.sh bench      the clock
 #
-# Each takes the archive that is there: make archive makes it. What cannot be run for want of cargo
-# or of the Rust's source is skipped, and said so in one line.
+# Each takes the archive that is there: make archive makes it. What cannot be run for want of cargo,
+# of cc and pkg-config or of the Rust's source is skipped, and said so in one line.
 set -eu
 task=${1:-}
 [ $# -eq 0 ] || shift
@@ -40,10 +41,37 @@ compare() {
   target/release/differential "$@"
 }
 
+# Builds the header's example as the header tells C programmers to, and holds it to what it is said
+# to print. PKG_CONFIG_LIBDIR: what the system has installed must not stand in for this prefix.
+installed() {
+  local header flags prints wrote
+  room=$(mktemp -d)
+  trap 'rm -rf "$room"' EXIT
+  make -s -C .. -o archive install DESTDIR= PREFIX="$room"
+  header=$room/include/lichenhusk.h
+  sed -n '/^ \*   #include/,/^ \*   }$/s/^ \* *//p' "$header" >"$room/example.c"
+  prints=$(sed -n 's/^ \* It prints "\(.*\)"\..*/\1/p' "$header")
+  export PKG_CONFIG_PATH='' PKG_CONFIG_LIBDIR="$room/lib/pkgconfig"
+  flags=$(pkg-config --cflags --libs lichenhusk)
+  grep -qx "version = \"$(pkg-config --modversion lichenhusk)\"" Cargo.toml ||
+    { echo "lichenhusk.pc has another version than Cargo.toml" >&2 && exit 1; }
+  # shellcheck disable=SC2086
+  cc "$room/example.c" $flags -o "$room/example"
+  wrote=$("$room/example")
+  [ "$wrote" = "$prints" ] || { echo "the header's example prints: $wrote" >&2 && exit 1; }
+  echo "the header's example, built by cc and pkg-config from a prefix, prints: $wrote"
+}
+
 case $task in
   host)
     has_cargo
     quietly test -p lichenhusk
+    ;;
+  installed)
+    for tool in cc pkg-config; do
+      command -v "$tool" >/dev/null || skip "no $tool is here"
+    done
+    installed
     ;;
   short)
     has_cargo
@@ -68,7 +96,7 @@ case $task in
     target/measured/bench
     ;;
   *)
-    sed -n '2,11p' run.sh | cut -c3- >&2
+    sed -n '2,12p' run.sh | cut -c3- >&2
     exit 2
     ;;
 esac
