@@ -83,4 +83,4 @@ module _ (d : List ℕ) where
   in-range k e p =
       let rest = both-pass (first (headRules d)) _ e .1 in
       let rows = each-passed (entryRules d) (count d) (both-pass (first (regionRules (region d))) _ rest .1) k p in
-      (rows .0, rows .1 .0)
+      (rows .0 .1 .0, rows .0 .1 .1 .0)

@@ -1,20 +1,20 @@
 -- What the checks come to, row by row: where all pass, the rules of an accepted dictionary hold; where one stops, that refusal is due.
 -- Accepts.antt and Refuses.antt draw their theorems from it. Assumes nothing.
 use mathlib.Core.Path.{_≡_, refl, sym, _∙_}
-use mathlib.Core.Bool.{Bool, true}
+use mathlib.Core.Bool.{true}
 use mathlib.Core.List.{List, [], _∷_}
 use Prim.Native.Nat.{ℕ, _+_, _-_, _<_}
 use native.Mathlib.Omega.{arith}
 use Rattle.part.specs.Part.{part}
 use Rattle.utf8.proofs.Laws.{text-sound, text-longest, text-whole, text-all}
 use Rattle.names.specs.Order.{Before, below}
-use Rattle.names.proofs.Laws.{below-before, before-below}
-use Rattle.rules.specs.Rules.{Rule, Found, Holds, Passed, first, each}
+use Rattle.names.proofs.Laws.{below-before, before-below, not-below}
+use Rattle.rules.specs.Rules.{Rule, Test, Fails, Passed, first, each}
+use Rattle.rules.specs.Rules.Test.{_or_}
 use Rattle.rules.specs.Rules.Rule.{_⇒_at_}
 use Rattle.rules.specs.Rules.Found.{pass, stop}
-use Rattle.rules.proofs.Laws.{_&_, false-true, never, first-pass, passed, goes, Meant, Cases, by-rows, by-each, meant-then, meant-map, meant-pass}
-use Rattle.rules.proofs.Laws.Meant.{all-pass, one-stops}
-use Rattle.metadata.specs.Dictionary.{sorted, count, offset, end, region, name, cuts, headRules, regionRules, entryRules, checks}
+use Rattle.rules.proofs.Laws.{_&_, false-true, unless, surely, never, first-at, first-pass, goes, Meant, Cases, by-rows, by-each, meant-then, meant-map, meant-pass}
+use Rattle.metadata.specs.Dictionary.{sorted, count, offset, end, region, name, cuts, outside, headRules, regionRules, entryRules, checks}
 use Rattle.metadata.specs.Meaning.{Sized, Versioned, Counted, Placed, Headed, Texted, Cut, InRange, GoodEntry, Dictionary, Refusal}
 use Rattle.metadata.specs.Meaning.Refusal.{too-long, empty, other-version, count-cut, start-sum, start-short, first-offset, end-sum, end-short, no-text, bad-range, not-above}
 use Rattle.metadata.proofs.Laws.{by-region}
@@ -65,60 +65,47 @@ module _ (d : List ℕ) where
     out-of-range : (InRange d k → ⊥) → Fault k 17 k
     not-greater : InRange d k → sorted d ≡ true → 0 < k → (Before (name d (k - 1)) (name d k) → ⊥) → Fault k 18 k
 
-  cut-holds : (k : ℕ) → Cut d k → Holds (cuts (region d) (offset d k))
-  cut-holds k c = c .inside & c .on-tail
+  -- its offsets, as the row tests them
+  abbrev out : ℕ → Test
+  out k = cuts (region d) (offset d k) or outside (region d) (offset d k) (offset d (k + 1))
 
-  holds-cut : (k : ℕ) → Holds (cuts (region d) (offset d k)) → Cut d k
-  holds-cut k h = record { inside = h .0; on-tail = h .1 }
+  in-passed : (k : ℕ) → InRange d k → Fails (out k)
+  in-passed k r =
+      unless (cuts (region d) (offset d k)) (λ h. r .start-whole (record { inside = h .0; on-tail = h .1 }))
+      & r .rises
+      & r .stays
+      & unless (cuts (region d) (offset d (k + 1))) (λ h. r .end-whole (record { inside = h .0; on-tail = h .1 }))
+
+  passed-in : (k : ℕ) → Fails (out k) → InRange d k
+  passed-in k f =
+      let whole : (j : ℕ) → Fails (cuts (region d) (offset d j)) → Cut d j → ⊥ = λ j g c. never (cuts (region d) (offset d j)) g (c .inside & c .on-tail) in
+      record { rises = f .1 .0; stays = f .1 .1 .0; start-whole = whole k (f .0); end-whole = whole (k + 1) (f .1 .1 .1) }
 
   -- the order of names, as the row tests it
-  below-names : (k : ℕ) {b : Bool} → 0 < k → below (part (region d) (offset d (k - 1)) (offset d k)) (part (region d) (offset d k) (offset d (k + 1))) ≡ b
-      → below (name d (k - 1)) (name d k) ≡ b
+  below-names : (k : ℕ) → 0 < k
+      → below (name d (k - 1)) (name d k) ≡ below (part (region d) (offset d (k - 1)) (offset d k)) (part (region d) (offset d k) (offset d (k + 1)))
   unfolding name
-  below-names k p e = let k-is : k - 1 + 1 ≡ k = omega arith in rw k-is e
+  below-names k p = let k-is : k - 1 + 1 ≡ k = omega arith in rw k-is
 
   entry-cases : (k : ℕ) → Cases (GoodEntry d k) (Fault k) (entryRules d k)
   unfolding entryRules
   entry-cases k =
-      (λ h. out-of-range (λ r. omega arith)) & λ rises.
-      (λ h. out-of-range (λ r. omega arith)) & λ stays.
-      (λ h. out-of-range (λ r. r .start-whole (holds-cut k h))) & λ whole.
-      (λ h. out-of-range (λ r. r .end-whole (holds-cut (k + 1) h))) & λ whole′.
-      let range : InRange d k =
-      record {
-        rises = rises;
-        stays = stays;
-        start-whole = λ c. never (cuts (region d) (offset d k)) whole (cut-holds k c);
-        end-whole = λ c. never (cuts (region d) (offset d (k + 1))) whole′ (cut-holds (k + 1) c);
-      } in
-      (λ h. not-greater range (h .0) (h .1 .0) (λ b. false-true (sym (below-names k (h .1 .0) (h .1 .1)) ∙ before-below b))) & λ above.
-      record { in-range = range; above = λ s p. below-before _ _ (below-names k p (above s p)) }
+      (λ h. out-of-range (λ r. never (out k) (in-passed k r) h)) & λ f.
+      (λ h. not-greater (passed-in k f) (h .0) (h .1 .0) (λ b. false-true (sym (below-names k (h .1 .0) ∙ h .1 .1) ∙ before-below b))) & λ above.
+      record { in-range = passed-in k f; above = λ s p. below-before _ _ (below-names k p ∙ above s p) }
 
   entry-means : (k : ℕ) → Meant (GoodEntry d k) (Fault k) (first (entryRules d k))
   entry-means k = by-rows (GoodEntry d k) (Fault k) (entryRules d k) (entry-cases k)
 
   -- so a good one passes, and each fault stops
   pub good-passed : (k : ℕ) → GoodEntry d k → Passed (entryRules d k)
-  good-passed k g = passed (entryRules d k) (go (entry-means k))
-    where
-      go : {f : Found} → Meant (GoodEntry d k) (Fault k) f → f ≡ pass
-      go (all-pass _) = refl
-      go (one-stops (out-of-range n)) = absurd (n (g .in-range))
-      go (one-stops (not-greater r s p n)) = absurd (n (g .above s p))
+  unfolding entryRules
+  good-passed k g = in-passed k (g .in-range) & (λ s p. sym (below-names k p) ∙ before-below (g .above s p)) & tt
 
   pub fault-stops : (k : ℕ) {c p : ℕ} → Fault k c p → first (entryRules d k) ≡ stop c p
-  fault-stops k (out-of-range out) = go (entry-means k)
-    where
-      go : {f : Found} → Meant (GoodEntry d k) (Fault k) f → f ≡ stop 17 k
-      go (all-pass g) = absurd (out (g .in-range))
-      go (one-stops (out-of-range n)) = refl
-      go (one-stops (not-greater r s p n)) = absurd (out r)
-  fault-stops k (not-greater r s p low) = go (entry-means k)
-    where
-      go : {f : Found} → Meant (GoodEntry d k) (Fault k) f → f ≡ stop 18 k
-      go (all-pass g) = absurd (low (g .above s p))
-      go (one-stops (out-of-range n)) = absurd (n r)
-      go (one-stops (not-greater _ _ _ n)) = refl
+  unfolding entryRules
+  fault-stops k (out-of-range n) = first-at 0 (entryRules d k) (surely (out k) (λ f. n (passed-in k f)))
+  fault-stops k (not-greater r s p n) = first-at 1 (entryRules d k) (in-passed k r & s & p & (sym (below-names k p) ∙ not-below _ _ n))
 
   -- ALL CHECKS
   passed-good : (k : ℕ) → Passed (entryRules d k) → GoodEntry d k

@@ -11,7 +11,7 @@ use Rattle.utf8.specs.Utf8.{textUpTo}
 use Rattle.names.specs.Order.{below}
 use Rattle.rules.specs.Rules.{Answer, Rule, Test, Found, accept, first, each, _orElse_, _otherwise_}
 use Rattle.rules.specs.Rules.Rule.{_⇒_at_}
-use Rattle.rules.specs.Rules.Test.{_<?_, _≤?_, _≠?_, is, isn't, _and_}
+use Rattle.rules.specs.Rules.Test.{_<?_, _≤?_, _≠?_, is, isn't, _and_, _or_}
 use Rattle.metadata.specs.Limits.{limit, u32Max}
 
 -- DICTIONARY BYTES
@@ -73,14 +73,15 @@ headRules d =
 abbrev pub regionRules : List ℕ → List Rule
 regionRules r = (textUpTo r <? length r ⇒ 16 at textUpTo r) ∷ []
 
+-- the offsets of an entry fall, pass the region, or the second cuts a character
+abbrev pub outside : List ℕ → ℕ → ℕ → Test
+outside r from to = to <? from or length r <? to or cuts r to
+
 -- of entry k, which runs from offset `from` to the next, `to`, in the region r; `prev` is the offset before: they fall, pass the region or cut
 -- a character; or the dictionary is sorted, and the entry is not above the one before
 abbrev pub entryRows : Bool → List ℕ → ℕ → ℕ → ℕ → ℕ → List Rule
 entryRows sorts r prev from to k =
-    (to <? from ⇒ 17 at k)
-    ∷ (length r <? to ⇒ 17 at k)
-    ∷ (cuts r from ⇒ 17 at k)
-    ∷ (cuts r to ⇒ 17 at k)
+    (cuts r from or outside r from to ⇒ 17 at k)
     ∷ (is sorts and 0 <? k and isn't (below (part r prev from) (part r from to)) ⇒ 18 at k)
     ∷ []
 

@@ -8,7 +8,7 @@ ghost use Rattle.names.specs.Order.{below};
 ghost use Rattle.rules.specs.Rules.{first, each, Says};
 ghost use Rattle.rules.specs.Rules.Test.{is, isn't, _<?_, _and_};
 ghost use Rattle.metadata.specs.Dictionary.{width as widthOf, count as countOf, start as startOf, end as endOf, offset as offsetOf, region as regionOf};
-ghost use Rattle.metadata.specs.Dictionary.{cuts, regionRules, entryRules, checks};
+ghost use Rattle.metadata.specs.Dictionary.{outside, regionRules, entryRules, checks};
 ghost use Rattle.metadata.specs.Steps.{LeadOf, PlacesOf, HeaderOf, HeadOf, Reached, EntryOf, foundOf, CheckedOf, SpanOf};
 ghost use Rattle.metadata.specs.Promises.{CheckPromise, GetPromise, WriteEmptyPromise};
 
@@ -182,14 +182,20 @@ fn check_text(region: &[u8]) -> Outcome
     Outcome::Pass
 }
 
-// Whether an offset lies inside the region on a byte that continues a character.
-fn cuts_at(region: &[u8], o: usize) -> bool
-    ensures { λ r. ⌜ Says r (cuts (now (region .entry)) o) ⌝ }
+// Whether the offsets `a` and `e` of an entry fall, pass the region, or the second cuts a character.
+fn out_of_range(region: &[u8], a: usize, e: usize) -> bool
+    ensures { λ r. ⌜ Says r (outside (now (region .entry)) a e) ⌝ }
 {
-    if region.len() <= o {
+    if e < a {
+        return true;
+    }
+    if region.len() < e {
+        return true;
+    }
+    if region.len() == e {
         return false;
     }
-    let b = region[o];
+    let b = region[e];
     if b < 0x80 {
         return false;
     }
@@ -230,13 +236,7 @@ fn check_entry(dict: &[u8], region: &[u8], h: Header, k: usize, p: usize, a: usi
 {
     let w = h.width;
     let e = offset_at(dict, w, k + 1);
-    if e < a {
-        return Step::Refused(Refusal::Range(k));
-    }
-    if region.len() < e {
-        return Step::Refused(Refusal::Range(k));
-    }
-    if cuts_at(region, e) {
+    if out_of_range(region, a, e) {
         return Step::Refused(Refusal::Range(k));
     }
     if not_above(region, h.sorted, k, p, a, e) {

@@ -11,10 +11,10 @@ use native.Mathlib.Numerals.{add-one}
 use native.Mathlib.Omega.{arith}
 use lib.Dec.{eqb}
 use borrow.Author.Tests.{lt-ltb, le-ltb, ltb-true, ltb-false, le-leb, lt-leb, leb-true, leb-false, eq-eqb, ne-eqb, eqb-true, eqb-false, not-true, not-false}
-use Rattle.rules.specs.Rules.{Answer, refuse, accept, codeOf, Test, Holds, Fails, holds, Rule, Found, first, each, _orElse_, _otherwise_}
+use Rattle.rules.specs.Rules.{Answer, refuse, accept, codeOf, Test, Says, Holds, Fails, holds, Rule, Found, first, each, _orElse_, _otherwise_}
 use Rattle.rules.specs.Rules.{Passed, At, refusalAt, Rows, Stands, Kept, Stays, StopsAs, RefusedAs}
 use Rattle.rules.specs.Rules.Answer.{gives}
-use Rattle.rules.specs.Rules.Test.{_<?_, _≤?_, _≠?_, is, isn't, _and_}
+use Rattle.rules.specs.Rules.Test.{_<?_, _≤?_, _≠?_, is, isn't, _and_, _or_}
 use Rattle.rules.specs.Rules.Rule.{_⇒_at_}
 use Rattle.rules.specs.Rules.Found.{pass, stop}
 
@@ -37,61 +37,73 @@ stop-pass e = let z : _≡_ {A = ℕ} 0 1 = cc in absurd (omega arith)
 
 -- TESTS: what `holds` computes is what `Holds` and `Fails` say.
 
-pub is-held : (t : Test) → Holds t → holds t ≡ true
-is-held (a <? b) h = lt-ltb a b h
-is-held (a ≤? b) h = le-leb a b h
-is-held (a ≠? b) h = ap not (ne-eqb a b h)
-is-held (is b) h = h
-is-held (isn't b) h = ap not h
-is-held (t and u) h = rw (is-held t (h .0)) (is-held u (h .1))
-
 both : (a b : Bool) → (a && b) ≡ true → (a ≡ true) × (b ≡ true)
 both true b e = (refl, e)
 both false b e = false-true e
 
-pub held : (t : Test) → holds t ≡ true → Holds t
-held (a <? b) e = ltb-true a b e
-held (a ≤? b) e = leb-true a b e
-held (a ≠? b) e = eqb-false a b (not-true _ e)
-held (is b) e = e
-held (isn't b) e = not-true b e
-held (t and u) e = let w = both (holds t) (holds u) e in (held t (w .0), held u (w .1))
+not-both : (a b : Bool) → (a ≡ true → b ≡ false) → (a && b) ≡ false
+not-both true b h = h refl
+not-both false b h = refl
 
-pub failed : (t : Test) → holds t ≡ false → Fails t
-failed (a <? b) e = ltb-false a b e
-failed (a ≤? b) e = leb-false a b e
-failed (a ≠? b) e = eqb-true a b (not-false _ e)
-failed (is b) e = e
-failed (isn't b) e = not-false b e
-failed (t and u) e = λ h. failed u (rw (is-held t h) at e)
+either : (a b : Bool) → (a ≡ false → b ≡ true) → (a || b) ≡ true
+either true b h = refl
+either false b h = h refl
 
-pub is-failed : (t : Test) → Fails t → holds t ≡ false
-is-failed (a <? b) h = le-ltb a b h
-is-failed (a ≤? b) h = lt-leb a b h
-is-failed (a ≠? b) h = ap not (eq-eqb a b h)
-is-failed (is b) h = h
-is-failed (isn't b) h = ap not h
-is-failed (t and u) h = go (holds t) refl (λ e. is-failed u (h (held t e)))
-  where
-    go : (a : Bool) → holds t ≡ a → (holds t ≡ true → holds u ≡ false) → (a && holds u) ≡ false
-    go true e r = r e
-    go false e r = refl
+pub neither : (a b : Bool) → (a || b) ≡ false → (a ≡ false) × (b ≡ false)
+neither true b e = false-true (sym e)
+neither false b e = (refl, e)
+
+decides : (t : Test) (v : Bool) → (holds t ≡ v) ↔ Says v t
+decides (a <? b) true = (ltb-true a b, lt-ltb a b)
+decides (a <? b) false = (ltb-false a b, le-ltb a b)
+decides (a ≤? b) true = (leb-true a b, le-leb a b)
+decides (a ≤? b) false = (leb-false a b, lt-leb a b)
+decides (a ≠? b) true = (λ e. eqb-false a b (not-true _ e), λ h. ap not (ne-eqb a b h))
+decides (a ≠? b) false = (λ e. eqb-true a b (not-false _ e), λ h. ap not (eq-eqb a b h))
+decides (is b) true = (λ e. e, λ h. h)
+decides (is b) false = (λ e. e, λ h. h)
+decides (isn't b) true = (not-true b, ap not)
+decides (isn't b) false = (not-false b, ap not)
+decides (t and u) true = (
+  λ e. let w = both (holds t) (holds u) e in (decides t true .0 (w .0), decides u true .0 (w .1)),
+  λ h. rw (decides t true .1 (h .0)) (decides u true .1 (h .1)),
+)
+decides (t and u) false = (
+  λ e h. decides u false .0 (rw (decides t true .1 h) at e),
+  λ h. not-both (holds t) (holds u) (λ e. decides u false .1 (h (decides t true .0 e))),
+)
+decides (t or u) true = (
+  λ e f. decides u true .0 (rw (decides t false .1 f) at e),
+  λ h. either (holds t) (holds u) (λ e. decides u true .1 (h (decides t false .0 e))),
+)
+decides (t or u) false = (
+  λ e. let w = neither (holds t) (holds u) e in (decides t false .0 (w .0), decides u false .0 (w .1)),
+  λ h. rw (decides t false .1 (h .0)) (decides u false .1 (h .1)),
+)
+
+is-held : (t : Test) → Holds t → holds t ≡ true
+is-held t h = decides t true .1 h
+
+is-failed : (t : Test) → Fails t → holds t ≡ false
+is-failed t f = decides t false .1 f
 
 -- a choice by a test, from what it says either way
 pub by-test : (t : Test) {A : Type 0} (P : A → Type 0) {x y : A} → (Holds t → P x) → (Fails t → P y) → P (cond (holds t) x y)
 by-test t P {x} {y} f g = go (holds t) refl
   where
     go : (u : Bool) → holds t ≡ u → P (cond u x y)
-    go true e = f (held t e)
-    go false e = g (failed t e)
+    go true e = f (decides t true .0 e)
+    go false e = g (decides t false .0 e)
 
--- a test that cannot hold fails, and one that fails does not hold
+pub either-way : (t : Test) {A : Type 0} → (Holds t → A) → (Fails t → A) → A
+either-way t {A} f g = by-test t (λ (_ : ℕ). A) {x = 0} {y = 0} f g
+
+-- a test that cannot hold fails, one that cannot fail holds, and none does both
 pub unless : (t : Test) → (Holds t → ⊥) → Fails t
-unless t h = go (holds t) refl
-  where
-    go : (u : Bool) → holds t ≡ u → Fails t
-    go true e = absurd (h (held t e))
-    go false e = failed t e
+unless t n = either-way t (λ h. absurd (n h)) (λ f. f)
+
+pub surely : (t : Test) → (Fails t → ⊥) → Holds t
+surely t n = either-way t (λ h. h) (λ f. absurd (n f))
 
 pub never : (t : Test) → Fails t → Holds t → ⊥
 never t f h = let z : false ≡ true = sym (is-failed t f) ∙ is-held t h in false-true z
@@ -336,15 +348,6 @@ stops-next {next = next} e s = rw (goes next e) s
 pub refused-as : {a b : ℕ} {f : Found} → StopsAs a b f → (x : Answer) → RefusedAs a b (f otherwise x)
 refused-as s x = ⊎-elim (λ e. inl (refused x e)) (λ e. inr (refused x e)) s
 
--- which of two numbers it is, where these two are lifted
-which : (a b c : ℕ) → ((eqb c a || eqb c b) ≡ false → ⊥) → (c ≡ a) ⊎ (c ≡ b)
-which a b c n = go (eqb c a) (eqb c b) refl refl n
-  where
-    go : (u v : Bool) → eqb c a ≡ u → eqb c b ≡ v → ((u || v) ≡ false → ⊥) → (c ≡ a) ⊎ (c ≡ b)
-    go true v w x n = inl (eqb-true c a w)
-    go false true w x n = inr (eqb-true c b x)
-    go false false w x n = absurd (n refl)
-
 -- where the whole passes a table at place 0 and the cut one cannot, the cut one stops there with a number that more bytes lift
 pub cut-stops : (a b : ℕ) (rows rows′ : List Rule) → Rows (λ c p. p ≡ 0) rows → Kept (λ c. eqb c a || eqb c b) rows rows′
     → first rows′ ≡ pass → (first rows ≡ pass → ⊥) → StopsAs a b (first rows)
@@ -352,7 +355,9 @@ cut-stops a b rows rows′ z k e n = go (first rows) (kept _ rows rows′ k) (ro
   where
     go : (f : Found) → Stays (λ c. eqb c a || eqb c b) f (first rows′) → Meant (Unit {0}) (λ c p. p ≡ 0) f → (f ≡ pass → ⊥) → StopsAs a b f
     go pass s m n = absurd (n refl)
-    go (stop c p) s (one-stops z) n = ⊎-elim (λ w. inl (ap₂ stop w z)) (λ w. inr (ap₂ stop w z)) (which a b c (λ l. stop-pass (sym (s l) ∙ e)))
+    go (stop c p) s (one-stops z) n =
+        either-way (is (eqb c a)) (λ w. inl (ap₂ stop (eqb-true c a w) z)) λ f.
+        either-way (is (eqb c b)) (λ w. inr (ap₂ stop (eqb-true c b w) z)) (λ g. stop-pass (sym (s (rw (f, g))) ∙ e))
 
 -- TWO FAMILIES OF ONE MEANING
 

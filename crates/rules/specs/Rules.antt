@@ -2,7 +2,7 @@
 -- first row that holds gives the refusal (document 01, "Checks, in order" and "Answers"). Definitions only; the laws are in proofs/Laws.antt.
 -- Assumes nothing.
 use mathlib.Core.Path.{_≡_}
-use mathlib.Core.Bool.{Bool, true, false, not, cond, _&&_}
+use mathlib.Core.Bool.{Bool, true, false, not, cond, _&&_, _||_}
 use mathlib.Core.Logic.{_⊎_}
 use mathlib.Core.List.{List, [], _∷_, _++_}
 use Prim.Native.Nat.{ℕ, zero, suc, _≤_, _<_}
@@ -12,6 +12,7 @@ infix 30 _<?_
 infix 30 _≤?_
 infix 30 _≠?_
 infixr 28 _and_
+infixr 27 _or_
 infix 25 _⇒_at_
 infixr 12 _orElse_
 infixr 10 _otherwise_
@@ -39,22 +40,30 @@ pub data Test : Type 0 where
   is : Bool → Test
   isn't : Bool → Test
   _and_ : Test → Test → Test
+  _or_ : Test → Test → Test
+
+-- what is so of a test that was answered by a bool
+abbrev pub Says : Bool → Test → Type 0
+Says true (a <? b) = a < b
+Says false (a <? b) = b ≤ a
+Says true (a ≤? b) = a ≤ b
+Says false (a ≤? b) = b < a
+Says true (a ≠? b) = a ≡ b → ⊥
+Says false (a ≠? b) = a ≡ b
+Says true (is b) = b ≡ true
+Says false (is b) = b ≡ false
+Says true (isn't b) = b ≡ false
+Says false (isn't b) = b ≡ true
+Says true (t and u) = Says true t × Says true u
+Says false (t and u) = Says true t → Says false u
+Says true (t or u) = Says false t → Says true u
+Says false (t or u) = Says false t × Says false u
 
 abbrev pub Holds : Test → Type 0
-Holds (a <? b) = a < b
-Holds (a ≤? b) = a ≤ b
-Holds (a ≠? b) = a ≡ b → ⊥
-Holds (is b) = b ≡ true
-Holds (isn't b) = b ≡ false
-Holds (t and u) = Holds t × Holds u
+Holds t = Says true t
 
 abbrev pub Fails : Test → Type 0
-Fails (a <? b) = b ≤ a
-Fails (a ≤? b) = b < a
-Fails (a ≠? b) = a ≡ b
-Fails (is b) = b ≡ false
-Fails (isn't b) = b ≡ true
-Fails (t and u) = Holds t → Fails u
+Fails t = Says false t
 
 abbrev pub holds : Test → Bool
 holds (a <? b) = ltb a b
@@ -63,11 +72,7 @@ holds (a ≠? b) = not (eqb a b)
 holds (is b) = b
 holds (isn't b) = not b
 holds (t and u) = holds t && holds u
-
--- what is known of a test that code answered by a bool
-abbrev pub Says : Bool → Test → Type 0
-Says true t = Holds t
-Says false t = Fails t
+holds (t or u) = holds t || holds u
 
 -- ROWS AND TABLES.
 

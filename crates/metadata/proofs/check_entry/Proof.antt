@@ -27,28 +27,23 @@ check-entry-spec =
     (tie.spec
     (λ c. search needs)  -- add-offset-at
     (λ c κs. search needs)  -- offset-at-requires
-    (λ c. rows (c .before) ∙ first-at 0 _ (omega arith))  -- returns
-    (λ c. rows (c .before .before) ∙ first-at 1 _ (omega arith))  -- returns-2
-    (λ c κs. search needs)  -- cuts-at-requires
+    (λ c κs. search needs)  -- out-of-range-requires
+    (λ c. rows (c .before .before) ∙ first-at 0 _ (λ whole. rw (c .if1 .taken) at (c .before .out-of-range .ensures)))  -- returns
+    (λ c κs. let range = rw (c .if1 .left) at (c .before .out-of-range .ensures) in omega arith)  -- not-above-requires
     (λ c. let o = c .before .before .before .before in
-    let cut = rw (c .if3 .taken) at (c .before .cuts-at .ensures) in
-    rows o ∙ first-at 3 _ (omega arith & omega arith & start-whole (o .before .before .before) & cut))  -- returns-3
-    (λ c κs. search needs)  -- not-above-requires
-    (λ c. let o = c .before .before .before .before .before .before in
-    let end-whole = rw (c .before .before .if3 .left) at (c .before .before .before .cuts-at .ensures) in
-    let fault = rw (c .if4 .taken) at (c .before .not-above .ensures) in
-    rows o ∙ first-at 4 _ (omega arith & omega arith & start-whole (o .before .before .before) & end-whole & fault))  -- returns-4
-    (λ c. let o = c .before .before .before .before .before .before in
+    let range = rw (c .before .before .if1 .left) at (c .before .before .before .out-of-range .ensures) in
+    rows o ∙ first-at 1 _ ((start-whole (o .before .before .before) & range) & rw (c .if2 .taken) at (c .before .not-above .ensures)))  -- returns-2
+    (λ c. let o = c .before .before .before .before in
     let s = o .before .before .before in
-    let end-whole = rw (c .before .before .if3 .left) at (c .before .before .before .cuts-at .ensures) in
-    let above = rw (c .if4 .left) at (c .before .not-above .ensures) in
+    let range = rw (c .before .before .if1 .left) at (c .before .before .before .out-of-range .ensures) in
+    let above = rw (c .if2 .left) at (c .before .not-above .ensures) in
     let k-is : s .args .k + 1 - 1 ≡ s .args .k = omega arith in (
-      rows o ∙ first-pass _ (omega arith & omega arith & start-whole s & end-whole & above & tt),
+      rows o ∙ first-pass _ ((start-whole s & range) & above & tt),
       record {
         before-is = rw k-is (s .pre .3 .start-is);
         start-is = o .offset-at .ensures .0;
-        rises = omega arith;
-        inside = rw (← s .pre .1) (omega arith);
-        whole = rw (← s .pre .1) end-whole;
+        rises = range .0;
+        inside = rw (← s .pre .1) (range .1 .0);
+        whole = rw (← s .pre .1) (range .1 .1);
       },
-    )))  -- returns-5
+    )))  -- returns-3
