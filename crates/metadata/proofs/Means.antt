@@ -1,28 +1,21 @@
 -- What the checks come to, row by row: where all pass, the rules of an accepted dictionary hold; where one stops, that refusal is due.
 -- Accepts.antt and Refuses.antt draw their theorems from it. Assumes nothing.
 use mathlib.Core.Path.{_≡_, refl, sym, _∙_}
-use mathlib.Core.Bool.{true}
-use mathlib.Core.List.{List, [], _∷_}
+use mathlib.Core.List.{List}
 use Prim.Native.Nat.{ℕ, _+_, _-_, _<_}
 use native.Mathlib.Omega.{arith}
 use Rattle.part.specs.Part.{part}
 use Rattle.utf8.proofs.Laws.{text-sound, text-longest, text-whole, text-all}
-use Rattle.names.specs.Order.{Before, below}
-use Rattle.names.proofs.Laws.{below-before, before-below, not-below}
-use Rattle.rules.specs.Rules.{Rule, Test, Fails, Passed, first, each}
+use Rattle.names.specs.Order.{below}
+use Rattle.names.proofs.Laws.{below-before, before-below}
+use Rattle.rules.specs.Rules.{Test, Fails, Passed, first, each}
 use Rattle.rules.specs.Rules.Test.{_or_}
-use Rattle.rules.specs.Rules.Rule.{_⇒_at_}
-use Rattle.rules.specs.Rules.Found.{pass, stop}
-use Rattle.rules.proofs.Laws.{_&_, false-true, unless, surely, never, first-at, first-pass, goes, Meant, Cases, by-rows, by-each, meant-then, meant-map, meant-pass}
+use Rattle.rules.specs.Rules.Found.{pass}
+use Rattle.rules.proofs.Laws.{_&_, false-true, unless, never, first-pass, goes, Meant, Cases, by-rows, by-each, meant-then, meant-map, meant-pass}
 use Rattle.metadata.specs.Dictionary.{sorted, count, offset, end, region, name, cuts, outside, headRules, regionRules, entryRules, checks}
 use Rattle.metadata.specs.Meaning.{Sized, Versioned, Counted, Placed, Headed, Texted, Cut, InRange, GoodEntry, Dictionary, Refusal}
 use Rattle.metadata.specs.Meaning.Refusal.{too-long, empty, other-version, count-cut, start-sum, start-short, first-offset, end-sum, end-short, no-text, bad-range, not-above}
 use Rattle.metadata.proofs.Laws.{by-region}
-
--- what each row has to show, from less or for more
-cases-map : {A C : Type 0} {B D : ℕ → ℕ → Type 0} (rows : List Rule) → (A → C) → ((c p : ℕ) → B c p → D c p) → Cases A B rows → Cases C D rows
-cases-map [] f g k = f k
-cases-map ((t ⇒ c at p) ∷ rows) f g k = (λ h. g c p (k .0 h)) & λ h. cases-map rows f g (k .1 h)
 
 module _ (d : List ℕ) where
   -- THE HEADER
@@ -60,69 +53,51 @@ module _ (d : List ℕ) where
       by-region d (head-passed (t .headed)) (first-pass _ (omega (arith, text-whole (region d) (t .is-text)) & tt))
       ∙ goes _ refl
 
-  -- AN ENTRY: what is wrong with it
-  pub data Fault (k : ℕ) : ℕ → ℕ → Type 0 where
-    out-of-range : (InRange d k → ⊥) → Fault k 17 k
-    not-greater : InRange d k → sorted d ≡ true → 0 < k → (Before (name d (k - 1)) (name d k) → ⊥) → Fault k 18 k
-
-  -- its offsets, as the row tests them
-  abbrev out : ℕ → Test
+  -- AN ENTRY: its offsets, as the row tests them
+  abbrev pub out : ℕ → Test
   out k = cuts (region d) (offset d k) or outside (region d) (offset d k) (offset d (k + 1))
 
-  in-passed : (k : ℕ) → InRange d k → Fails (out k)
+  pub in-passed : (k : ℕ) → InRange d k → Fails (out k)
   in-passed k r =
       unless (cuts (region d) (offset d k)) (λ h. r .start-whole (record { inside = h .0; on-tail = h .1 }))
       & r .rises
       & r .stays
       & unless (cuts (region d) (offset d (k + 1))) (λ h. r .end-whole (record { inside = h .0; on-tail = h .1 }))
 
-  passed-in : (k : ℕ) → Fails (out k) → InRange d k
+  pub passed-in : (k : ℕ) → Fails (out k) → InRange d k
   passed-in k f =
       let whole : (j : ℕ) → Fails (cuts (region d) (offset d j)) → Cut d j → ⊥ = λ j g c. never (cuts (region d) (offset d j)) g (c .inside & c .on-tail) in
       record { rises = f .1 .0; stays = f .1 .1 .0; start-whole = whole k (f .0); end-whole = whole (k + 1) (f .1 .1 .1) }
 
   -- the order of names, as the row tests it
-  below-names : (k : ℕ) → 0 < k
+  pub below-names : (k : ℕ) → 0 < k
       → below (name d (k - 1)) (name d k) ≡ below (part (region d) (offset d (k - 1)) (offset d k)) (part (region d) (offset d k) (offset d (k + 1)))
   unfolding name
   below-names k p = let k-is : k - 1 + 1 ≡ k = omega arith in rw k-is
 
-  entry-cases : (k : ℕ) → Cases (GoodEntry d k) (Fault k) (entryRules d k)
-  unfolding entryRules
-  entry-cases k =
-      (λ h. out-of-range (λ r. never (out k) (in-passed k r) h)) & λ f.
-      (λ h. not-greater (passed-in k f) (h .0) (h .1 .0) (λ b. false-true (sym (below-names k (h .1 .0) ∙ h .1 .1) ∙ before-below b))) & λ above.
-      record { in-range = passed-in k f; above = λ s p. below-before _ _ (below-names k p ∙ above s p) }
-
-  entry-means : (k : ℕ) → Meant (GoodEntry d k) (Fault k) (first (entryRules d k))
-  entry-means k = by-rows (GoodEntry d k) (Fault k) (entryRules d k) (entry-cases k)
-
-  -- so a good one passes, and each fault stops
+  -- so a good one passes, and one that passes is good
   pub good-passed : (k : ℕ) → GoodEntry d k → Passed (entryRules d k)
   unfolding entryRules
   good-passed k g = in-passed k (g .in-range) & (λ s p. sym (below-names k p) ∙ before-below (g .above s p)) & tt
 
-  pub fault-stops : (k : ℕ) {c p : ℕ} → Fault k c p → first (entryRules d k) ≡ stop c p
+  passed-good : (k : ℕ) → Passed (entryRules d k) → GoodEntry d k
   unfolding entryRules
-  fault-stops k (out-of-range n) = first-at 0 (entryRules d k) (surely (out k) (λ f. n (passed-in k f)))
-  fault-stops k (not-greater r s p n) = first-at 1 (entryRules d k) (in-passed k r & s & p & (sym (below-names k p) ∙ not-below _ _ n))
+  passed-good k h = record { in-range = passed-in k (h .0); above = λ s p. below-before _ _ (below-names k p ∙ h .1 .0 s p) }
+
+  entry-refuses : Texted d → (k : ℕ) → k < count d → ((j : ℕ) → j < k → GoodEntry d j) → Cases (Unit {0}) (Refusal d) (entryRules d k)
+  unfolding entryRules
+  entry-refuses t k q good =
+      (λ h. bad-range t q good (λ r. never (out k) (in-passed k r) h)) & λ f.
+      (λ h. not-above t q good (passed-in k f) (h .0) (h .1 .0) (λ b. false-true (sym (below-names k (h .1 .0) ∙ h .1 .1) ∙ before-below b))) & λ _. tt
 
   -- ALL CHECKS
-  passed-good : (k : ℕ) → Passed (entryRules d k) → GoodEntry d k
-  passed-good k h = meant-pass (entry-means k) (first-pass (entryRules d k) h)
-
-  fault-refuses : Texted d → (k : ℕ) → k < count d → ((j : ℕ) → j < k → GoodEntry d j) → (c p : ℕ) → Fault k c p → Refusal d c p
-  fault-refuses t k q good c p (out-of-range n) = bad-range t q good n
-  fault-refuses t k q good c p (not-greater r s z n) = not-above t q good r s z n
-
   pub checks-mean : Meant (Dictionary d (count d) (end d)) (Refusal d) (checks d)
   unfolding checks
   checks-mean =
       meant-then _ head-means λ h.
       meant-then _ (region-means h) λ t.
       meant-map (λ all. record { texted = t; entries = λ k q. passed-good k (all k q); counts = refl; ends = refl }) (λ c p b. b)
-      (by-each (Refusal d) (entryRules d) (count d) λ k q all.
-      cases-map (entryRules d k) (λ _. tt) (fault-refuses t k q (λ j r. passed-good j (all j r))) (entry-cases k))
+      (by-each (Refusal d) (entryRules d) (count d) λ k q all. entry-refuses t k q (λ j r. passed-good j (all j r)))
 
   pub good : checks d ≡ pass → Dictionary d (count d) (end d)
   good e = meant-pass checks-mean e

@@ -1,35 +1,35 @@
 -- A dictionary is refused, with a number and a place, exactly when document 01's table says so, its checks taken in their order (the data
 -- type `Refusal` of specs/Meaning.antt). Assumes nothing.
-use mathlib.Core.Path.{_≡_, _∙_}
+use mathlib.Core.Path.{_≡_, sym, _∙_}
 use mathlib.Core.Logic.{_↔_}
 use mathlib.Core.List.{List, [], _∷_}
 use Prim.Native.Nat.{ℕ, _≤_, _<_}
 use native.Mathlib.Omega.{arith}
 use Rattle.utf8.specs.Utf8.{textUpTo}
 use Rattle.utf8.proofs.Laws.{text-le, text-sound, text-longest}
-use Rattle.rules.specs.Rules.{refuse}
+use Rattle.names.proofs.Laws.{not-below}
+use Rattle.rules.specs.Rules.{refuse, first}
 use Rattle.rules.specs.Rules.Found.{stop}
-use Rattle.rules.proofs.Laws.{first-at, stops, turned-down, refused, each-pass, each-stop, meant-then, meant-stop, rows-mean, each-means}
+use Rattle.rules.proofs.Laws.{_&_, surely, first-at, stops, turned-down, refused, each-pass, each-stop, meant-then, meant-stop, rows-mean, each-means}
 use Rattle.metadata.specs.Dictionary.{count, end, region, headRules, regionRules, entryRules, checks, verdict}
 use Rattle.metadata.specs.Meaning.{Texted, GoodEntry, LongestText, Refusal}
 use Rattle.metadata.specs.Meaning.Refusal.{too-long, empty, other-version, count-cut, start-sum, start-short, first-offset, end-sum, end-short, no-text, bad-range, not-above}
 use Rattle.metadata.proofs.Laws.{by-head, by-region}
-use Rattle.metadata.proofs.Means.{Fault, head-passed, by-entries, good-passed, fault-stops, checks-mean}
-use Rattle.metadata.proofs.Means.Fault.{out-of-range, not-greater}
+use Rattle.metadata.proofs.Means.{head-passed, by-entries, out, in-passed, passed-in, below-names, good-passed, checks-mean}
 
 -- the longest text that a list starts with is the one that is measured
 measured : (r : List ℕ) (p : ℕ) → LongestText r p → textUpTo r ≡ p
 measured r p l =
     omega (arith, l .longest (textUpTo r) (text-le r) (text-sound r), text-longest r p (omega arith) (l .is-text))
 
--- the first entry with a fault stops
-by-fault : (d : List ℕ) {k c p : ℕ} → Texted d → k < count d → ((j : ℕ) → j < k → GoodEntry d j) → Fault d k c p → checks d ≡ stop c p
-by-fault d {k} t q before f =
-    by-entries d t
-    ∙ each-stop (entryRules d) k (count d) (each-pass (entryRules d) k (λ j r. good-passed d j (before j r))) (fault-stops d k f) q
+-- the first entry that stops, stops all
+by-entry : (d : List ℕ) {k c p : ℕ} → Texted d → k < count d → ((j : ℕ) → j < k → GoodEntry d j) → first (entryRules d k) ≡ stop c p → checks d ≡ stop c p
+by-entry d {k} t q before e =
+    by-entries d t ∙ each-stop (entryRules d) k (count d) (each-pass (entryRules d) k (λ j r. good-passed d j (before j r))) e q
 
 -- each refusal that is due is given
 pub is-due : (d : List ℕ) {c p : ℕ} → Refusal d c p → checks d ≡ stop c p
+unfolding entryRules
 is-due d (too-long h) = by-head d (first-at 0 _ h)
 is-due d (empty e) = by-head d (first-at 1 _ (omega arith))
 is-due d (other-version b h) = by-head d (first-at 2 _ (omega arith))
@@ -42,8 +42,9 @@ is-due d (end-short b z f h) = by-head d (first-at 8 _ (omega arith))
 is-due d (no-text {p = p} b l) =
     let m : textUpTo (region d) ≡ p = measured (region d) p l in
     by-region d (head-passed d b) (first-at 0 (regionRules (region d)) (omega arith)) ∙ stops _ (rw m)
-is-due d (bad-range t q g n) = by-fault d t q g (out-of-range n)
-is-due d (not-above t q g r s z n) = by-fault d t q g (not-greater r s z n)
+is-due d (bad-range {k = k} t q g n) = by-entry d t q g (first-at 0 (entryRules d k) (surely (out d k) (λ f. n (passed-in d k f))))
+is-due d (not-above {k = k} t q g r s z n) =
+    by-entry d t q g (first-at 1 (entryRules d k) (in-passed d k r & s & z & (sym (below-names d k z) ∙ not-below _ _ n)))
 
 -- the dictionary's numbers are 10 to 18, so none is taken for another answer's
 abbrev Ours : ℕ → ℕ → Type 0
