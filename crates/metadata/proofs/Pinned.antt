@@ -2,9 +2,10 @@
 -- out of document 01's numbers, so no two cases have the same. Assumes nothing.
 use mathlib.Core.Path.{_≡_, refl, sym, ap, ap₂, _∙_}
 use mathlib.Core.Bool.{cond}
-use mathlib.Core.List.{List, [], _∷_}
+use mathlib.Core.List.{List}
 use Prim.Native.Nat.{ℕ, _+_}
 use lib.Dec.{eqb}
+use lib.ListN.{getD}
 use Rattle.rules.specs.Rules.{Answer, Found}
 use Rattle.rules.specs.Rules.Answer.{gives}
 use Rattle.rules.specs.Rules.Found.{pass, stop}
@@ -61,26 +62,23 @@ by-back f back is a b e = sym (is a) ∙ ap back e ∙ is b
 
 -- ANSWERS
 verdictBack : Answer → Verdict
-verdictBack (gives c (n ∷ e ∷ v) p) = verdict.Accepted n e
-verdictBack (gives c (n ∷ []) p) = verdict.Accepted n 0
-verdictBack (gives c [] p) = refusalBy verdict.Refused (verdict.Accepted 0 0) c p
+verdictBack (gives c v p) = refusalBy verdict.Refused (verdict.Accepted (getD v 0 0) (getD v 1 0)) c p
 
 verdict-back : (v : Verdict) → verdictBack (verdictNumbers v) ≡ v
-unfolding verdictBack
-verdict-back (verdict.Refused r) = refusal-back verdict.Refused (verdict.Accepted 0 0) r
+unfolding verdictBack refusalBy
+verdict-back (verdict.Refused r) = refusal-back verdict.Refused _ r
 verdict-back (verdict.Accepted n e) = refl
 
 pub verdict-injective : (v u : Verdict) → verdictNumbers v ≡ verdictNumbers u → v ≡ u
 verdict-injective = by-back verdictNumbers verdictBack verdict-back
 
 entryBack : Answer → Entry
-entryBack (gives c (a ∷ e ∷ v) p) = entry.Named (record { start = a; end = e })
-entryBack (gives c (a ∷ []) p) = entry.NoSuchEntry
-entryBack (gives c [] p) = refusalBy entry.Refused entry.NoSuchEntry c p
+entryBack (gives c v p) =
+    refusalBy entry.Refused (cond (eqb c 31) entry.NoSuchEntry (entry.Named (record { start = getD v 0 0; end = getD v 1 0 }))) c p
 
 entry-back : (v : Entry) → entryBack (entryNumbers v) ≡ v
 unfolding entryBack refusalBy
-entry-back (entry.Refused r) = refusal-back entry.Refused entry.NoSuchEntry r
+entry-back (entry.Refused r) = refusal-back entry.Refused _ r
 entry-back entry.NoSuchEntry = refl
 entry-back (entry.Named s) = refl
 

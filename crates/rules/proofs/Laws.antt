@@ -256,12 +256,12 @@ meant-then next (all-pass a) k = k a
 meant-then next (one-stops b) k = one-stops b
 
 -- what is so of every row's number and place is so of those with which the table stops
-of-rows : (B : ℕ → ℕ → Type 0) (rows : List Rule) → Rows B rows → Cases (Unit {0}) B rows
-of-rows B [] k = tt
-of-rows B ((t ⇒ c at p) ∷ rows) k = (λ h. k .0, λ f. of-rows B rows (k .1))
+of-rows : {A : Type 0} (B : ℕ → ℕ → Type 0) (rows : List Rule) → (Passed rows → A) → Rows B rows → Cases A B rows
+of-rows B [] f k = f tt
+of-rows B ((t ⇒ c at p) ∷ rows) f k = (λ h. k .0, λ g. of-rows B rows (λ r. f (g, r)) (k .1))
 
-pub rows-mean : (B : ℕ → ℕ → Type 0) (rows : List Rule) → Rows B rows → Meant (Unit {0}) B (first rows)
-rows-mean B rows k = by-rows (Unit {0}) B rows (of-rows B rows k)
+pub rows-mean : (B : ℕ → ℕ → Type 0) (rows : List Rule) → Rows B rows → Meant (Passed rows) B (first rows)
+rows-mean B rows k = by-rows (Passed rows) B rows (of-rows B rows (λ p. p) k)
 
 -- entry by entry: each table shows its refusals, given that those before it passed
 abbrev AllPassed : (ℕ → List Rule) → ℕ → Type 0
@@ -281,7 +281,7 @@ by-each B table (suc n) h =
     go all (stop c p) e (one-stops b) = one-stops b
 
 pub each-means : (B : ℕ → ℕ → Type 0) (table : ℕ → List Rule) (n : ℕ) → ((k : ℕ) → k < n → Rows B (table k)) → Meant (AllPassed table n) B (first (each table n))
-each-means B table n h = by-each B table n (λ k p _. of-rows B (table k) (h k p))
+each-means B table n h = by-each B table n (λ k p _. of-rows B (table k) (λ _. tt) (h k p))
 
 pub meant-map : {A C : Type 0} {B D : ℕ → ℕ → Type 0} {f : Found} → (A → C) → ((c p : ℕ) → B c p → D c p) → Meant A B f → Meant C D f
 meant-map g h (all-pass a) = all-pass (g a)
@@ -353,7 +353,7 @@ pub cut-stops : (a b : ℕ) (rows rows′ : List Rule) → Rows (λ c p. p ≡ 0
     → first rows′ ≡ pass → (first rows ≡ pass → ⊥) → StopsAs a b (first rows)
 cut-stops a b rows rows′ z k e n = go (first rows) (kept _ rows rows′ k) (rows-mean _ rows z) n
   where
-    go : (f : Found) → Stays (λ c. eqb c a || eqb c b) f (first rows′) → Meant (Unit {0}) (λ c p. p ≡ 0) f → (f ≡ pass → ⊥) → StopsAs a b f
+    go : (f : Found) → Stays (λ c. eqb c a || eqb c b) f (first rows′) → Meant (Passed rows) (λ c p. p ≡ 0) f → (f ≡ pass → ⊥) → StopsAs a b f
     go pass s m n = absurd (n refl)
     go (stop c p) s (one-stops z) n =
         either-way (is (eqb c a)) (λ w. inl (ap₂ stop (eqb-true c a w) z)) λ f.
