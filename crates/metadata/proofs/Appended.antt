@@ -1,6 +1,6 @@
 -- Bytes added after a dictionary, within the limit, change no answer but 11 and 13: neither the verdict, nor a name by its number, nor `checked`.
 -- With the laws by which each number stays as it is, for the layers above. Assumes nothing.
-use mathlib.Core.Path.{_≡_, refl, ap}
+use mathlib.Core.Path.{_≡_, refl, sym, ap, _∙_}
 use mathlib.Core.Bool.{Bool, false, _||_}
 use mathlib.Core.List.{List, [], _∷_, _++_}
 use Prim.Native.Nat.{ℕ, _+_, _-_, _*_, _≤_, _<_}
@@ -22,8 +22,8 @@ use Rattle.metadata.specs.Limits.{limit}
 use Rattle.metadata.specs.Dictionary.{version, sorted, width, count, offset, start, end, region, name, headRules, regionRules, entryRules, checks, verdict, nameAt}
 use Rattle.metadata.specs.Steps.{CheckedOf}
 use Rattle.metadata.proofs.Laws.{count-before, start-before, offset-inside}
-use Rattle.metadata.proofs.Means.{head-passed, good}
-use Rattle.metadata.proofs.Pinned.{refusalBy, by-number, checked-pinned}
+use Rattle.metadata.proofs.Means.{good}
+use Rattle.metadata.proofs.Pinned.{refusalBy, by-number, headBy, head-is, checked-pinned}
 
 -- the refusals that more bytes may lift: empty, and short
 abbrev pub lifted : ℕ → Bool
@@ -150,28 +150,15 @@ module _ (d t : List ℕ) where
           let within = passed ((count d ≤? i ⇒ 31 at 0) ∷ []) (both .1) in
           rw (start-same (omega arith), offset-same (omega arith) i (omega arith), offset-same (omega arith) (i + 1) (omega arith))
 
-  -- `checked`: what it answered to the fewer bytes meets its promise for the more, and so it answers that
-  pub checked-kept : (r : Head) → length (d ++ t) ≤ limit → (r ≡ head.Refused Empty → ⊥) → (r ≡ head.Refused Short → ⊥) → CheckedOf d r → CheckedOf (d ++ t) r
-  unfolding refusalBy
-  checked-kept (head.Refused q) l p s e =
-      (rw e at (checks-kept l)) (unlifted _ (λ w. p (ap head.Refused (by-number q w))) (λ w. s (ap head.Refused (by-number q w))))
-  checked-kept (head.Good h) l p s (o, e) =
-      let passes : checks (d ++ t) ≡ pass = rw e at (checks-kept l) in
-      let g = good d e in (
-        record {
-          passes = head-passed (d ++ t) (good (d ++ t) passes .texted .headed);
-          width-is = omega (arith, width-same (omega arith));
-          some = o .some;
-          few = o .few;
-          sorted-is = cc (sorted-same (omega arith));
-          count-is = omega (arith, count-same (omega arith));
-          start-is = omega (arith, start-same (omega arith));
-          end-is = omega (arith, end-same (omega arith));
-          rises = o .rises;
-        },
-        passes,
-      )
-
   pub checked-appended : (r r′ : Head) → length (d ++ t) ≤ limit → (r ≡ head.Refused Empty → ⊥) → (r ≡ head.Refused Short → ⊥)
       → CheckedOf d r → CheckedOf (d ++ t) r′ → r′ ≡ r
-  checked-appended r r′ l p s a b = checked-pinned (d ++ t) r′ r b (checked-kept r l p s a)
+  unfolding refusalBy headBy
+  checked-appended (head.Refused q) r′ l p s a b =
+      let settled = unlifted _ (λ w. p (ap head.Refused (by-number q w))) (λ w. s (ap head.Refused (by-number q w))) in
+      checked-pinned (d ++ t) r′ (head.Refused q) b ((rw a at (checks-kept l)) settled)
+  checked-appended (head.Good h) r′ l p s a b =
+      let passes : checks (d ++ t) ≡ pass = rw (a .1) at (checks-kept l) in
+      let g = good d (a .1) in
+      sym (head-is (d ++ t) r′ b)
+      ∙ rw (passes, width-same (omega arith), sorted-same (omega arith), count-same (omega arith), start-same (omega arith), end-same (omega arith))
+      (rw (a .1) at (head-is d (head.Good h) a))

@@ -97,11 +97,11 @@ pub written-injective : (v u : Written) → writtenNumbers v ≡ writtenNumbers 
 written-injective = by-back writtenNumbers writtenBack written-back
 
 -- NUMBERS HANDED ON: the one head and the one span that meet their promise
-headBy : List ℕ → Found → Head
+unfoldable pub headBy : List ℕ → Found → Head
 headBy d (stop c p) = refusalBy head.Refused (head.Refused TooLong) c p
 headBy d pass = head.Good (record { width = width d; sorted = sorted d; count = count d; start = start d; end = end d })
 
-head-is : (d : List ℕ) (r : Head) → CheckedOf d r → headBy d (checks d) ≡ r
+pub head-is : (d : List ℕ) (r : Head) → CheckedOf d r → headBy d (checks d) ≡ r
 unfolding headBy
 head-is d (head.Refused r) e = rw e (refusal-back head.Refused (head.Refused TooLong) r)
 head-is d (head.Good h) (o, e) = rw (e, ← o .width-is, ← o .sorted-is, ← o .count-is, ← o .start-is, ← o .end-is)
