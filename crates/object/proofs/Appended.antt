@@ -1,6 +1,6 @@
 -- Bytes added after the dictionary, after the object or after both, each within the limit, change no answer but empty and short (11, 13, 21
 -- and 23). With the laws by which each of the object's numbers stays as it is, for the layers above. Assumes nothing.
-use mathlib.Core.Path.{_≡_, refl}
+use mathlib.Core.Path.{_≡_, refl, sym, ap, _∙_}
 use mathlib.Core.Bool.{Bool, true, false, _||_}
 use mathlib.Core.List.{List, _++_}
 use Prim.Native.Nat.{ℕ, _+_, _-_, _*_, _≤_, _<_}
@@ -9,7 +9,7 @@ use borrow.Author.Tests.{ne-eqb}
 use lib.Dec.{eqb}
 use lib.ListN.{length, length-append, List·getD-append}
 use Rattle.width.proofs.Laws.{le-append-at}
-use Rattle.rules.specs.Rules.{Found, Passed, Kept, Stays, codeOf, first, each, _orElse_}
+use Rattle.rules.specs.Rules.{Found, Kept, Stays, codeOf, first, each, _orElse_}
 use Rattle.rules.specs.Rules.Found.{pass}
 use Rattle.rules.proofs.Laws.{_&_, false-true, passed, each-same, each-alike, kept, same-stays, stays-same, stays-more, stays-then, stays-answer}
 use Rattle.metadata.specs.Limits.{limit}
@@ -27,9 +27,9 @@ use Rattle.object.specs.Object.{basicType, offsetWidth, idWidth, countWi
 use Rattle.object.specs.Object.{headRules, nameRules, offsetRules, checks, layer, verdict}
 use Rattle.object.specs.Answers.{refusalNumber}
 use Rattle.object.specs.Steps.{LayerOf, OpeningOf}
-use Rattle.object.proofs.Laws.{start-before, ids-before, offsets-before, id-inside, offset-inside}
-use Rattle.object.proofs.Means.{head-passed, good}
-use Rattle.object.proofs.Pinned.{open-pinned}
+use Rattle.object.proofs.Laws.{ids-before, offsets-before, id-inside, offset-inside}
+use Rattle.object.proofs.Means.{good}
+use Rattle.object.proofs.Pinned.{layer-is, message-by, open-pinned}
 
 -- the object's refusals that more bytes may lift, empty and short; and the dictionary's with them
 abbrev pub liftedHere : ℕ → Bool
@@ -205,37 +205,23 @@ module _ (d t o u : List ℕ) where
     verdict-appended s =
         stays-answer lifted (checks d o) (checks (d ++ t) (o ++ u)) _ _ checks-kept (λ e. let g = good d o e in layer-same o u (omega arith)) (unlifted _ s)
 
-    -- `open`: what it answered to the fewer bytes meets its promise for the more, and so it answers that
-    layer-kept : (l : Layer) → end o ≤ length o → Passed (headRules (o ++ u)) → LayerOf o l → LayerOf (o ++ u) l
-    layer-kept l h p k =
-        let placed : start o ≤ length o = omega (arith, start-before o) in
+    -- `open`
+    layer-kept : (l l′ : Layer) → start o ≤ length o → LayerOf o l → LayerOf (o ++ u) l′ → l′ ≡ l
+    layer-kept l l′ placed a b =
         let counts = counted o u placed in
-        record {
-          passes = p;
-          id-width-is = omega (arith, id-width-same o u (some o u counts));
-          id-some = k .id-some;
-          id-few = k .id-few;
-          offset-width-is = omega (arith, offset-width-same o u (some o u counts));
-          offset-some = k .offset-some;
-          offset-few = k .offset-few;
-          count-is = omega (arith, count-same o u counts);
-          ids-is = omega (arith, ids-same o u (some o u counts));
-          offsets-is = omega (arith, offsets-same o u counts);
-          start-is = omega (arith, start-same o u counts);
-          end-is = omega (arith, end-same o u placed);
-          rises = k .rises;
-        }
-
-    pub open-kept : (r : Opening) → Settled (openingCode r) → OpeningOf d o r → OpeningOf (d ++ t) (o ++ u) r
-    open-kept (opening.Refused q) s e = (rw e at checks-kept) (unlifted _ s)
-    open-kept (opening.Open m) s k =
-        let passing : checks (d ++ t) (o ++ u) ≡ pass = rw (k .passes) at checks-kept in
-        let all = good (d ++ t) (o ++ u) passing in
-        record {
-          over = dictionary-appended.checked-kept d t (dictionary-variants.Good (m .header)) dictionary-limit (λ w. never w) (λ w. never w) (k .over);
-          layered = layer-kept (m .layer) (good d o (k .passes) .named .headed .end-inside) (head-passed (d ++ t) (o ++ u) (all .named .headed)) (k .layered);
-          passes = passing;
-        }
+        let one = some o u counts in
+        sym (layer-is (o ++ u) l′ b)
+        ∙ rw (id-width-same o u one, offset-width-same o u one, count-same o u counts, ids-same o u one, offsets-same o u counts, start-same o u counts)
+        (rw (end-same o u placed) (layer-is o l a))
 
     pub open-appended : (r r′ : Opening) → Settled (openingCode r) → OpeningOf d o r → OpeningOf (d ++ t) (o ++ u) r′ → r′ ≡ r
-    open-appended r r′ s a b = open-pinned (d ++ t) (o ++ u) r′ r b (open-kept r s a)
+    open-appended (opening.Refused q) r′ s a b = open-pinned (d ++ t) (o ++ u) r′ (opening.Refused q) b ((rw a at checks-kept) (unlifted _ s))
+    open-appended (opening.Open m) (opening.Refused q) s a b =
+        let passing : checks (d ++ t) (o ++ u) ≡ pass = rw (a .passes) at checks-kept in
+        let z : _≡_ {A = ℕ} 0 1 = cc in absurd (omega arith)
+    open-appended (opening.Open m) (opening.Open m′) s a b =
+        let was = dictionary-variants.Good (m .header) in
+        let is = dictionary-variants.Good (m′ .header) in
+        let heads : is ≡ was = dictionary-appended.checked-appended d t was is dictionary-limit never never (a .over) (b .over) in
+        let g = good d o (a .passes) in
+        ap opening.Open (message-by m′ m (cc) (layer-kept (m .layer) (m′ .layer) (omega arith) (a .layered) (b .layered)))

@@ -67,17 +67,18 @@ pub verdict-injective : (v u : Verdict) → verdictNumbers v ≡ verdictNumbers 
 verdict-injective = by-back verdictNumbers verdictBack verdict-back
 
 -- NUMBERS HANDED ON: the one layer and the one message that meet their promise
-layer-is : (o : List ℕ) (l : Layer) → LayerOf o l
+pub layer-is : (o : List ℕ) (l : Layer) → LayerOf o l
     → record { «id_width» = idWidth o; «offset_width» = offsetWidth o; count = count o; ids = idsStart o; offsets = offsetsStart o; start = start o; end = end o } ≡ l
 layer-is o l h =
     rw (← h .id-width-is, ← h .offset-width-is, ← h .count-is, ← h .ids-is, ← h .offsets-is, ← h .start-is, ← h .end-is)
 
+pub message-by : (m n : Message) → m .header ≡ n .header → m .layer ≡ n .layer → m ≡ n
+message-by m n h l = ap₂ (λ x y. record { header = x; layer = y }) h l
+
 message-pinned : (d o : List ℕ) (m n : Message) → MessageOf d o m → MessageOf d o n → m ≡ n
 message-pinned d o m n a b =
-    let headers = checked-pinned d (dictionary-head.Good (m .header)) (dictionary-head.Good (n .header)) (a .over) (b .over) in
-    let header-is : m .header ≡ n .header = cc in
-    let layers : m .layer ≡ n .layer = sym (layer-is o (m .layer) (a .layered)) ∙ layer-is o (n .layer) (b .layered) in
-    ap₂ (λ h l. record { header = h; layer = l }) header-is layers
+    let heads = checked-pinned d (dictionary-head.Good (m .header)) (dictionary-head.Good (n .header)) (a .over) (b .over) in
+    message-by m n (cc) (sym (layer-is o (m .layer) (a .layered)) ∙ layer-is o (n .layer) (b .layered))
 
 -- THE THEOREMS, a call each
 pub open-pinned : (d o : List ℕ) (r q : Opening) → OpeningOf d o r → OpeningOf d o q → r ≡ q
