@@ -2,7 +2,7 @@
 use mathlib.Core.Path.{_≡_, refl, sym, _∙_}
 use mathlib.Core.Bool.{Bool}
 use mathlib.Core.List.{List}
-use Prim.Native.Nat.{ℕ, _+_, _-_, _*_, _≤_, _<_}
+use Prim.Native.Nat.{ℕ, _+_, _-_, _*_, _≤_}
 use native.Mathlib.Nat.{mul-le-mul-left}
 use native.Mathlib.Omega.{arith}
 use lib.ListN.{length}
@@ -13,7 +13,7 @@ use Rattle.utf8.proofs.Laws.{text-all}
 use Rattle.utf8.proofs.Bounds.{text-first}
 use Rattle.rules.specs.Rules.{Found, first, each, Passed, Fails, _orElse_}
 use Rattle.rules.specs.Rules.Found.{pass, stop}
-use Rattle.rules.proofs.Laws.{first-pass, passed, stops, goes, unless, both-pass, each-passed}
+use Rattle.rules.proofs.Laws.{first-pass, passed, stops, goes, unless}
 use Rattle.metadata.specs.Dictionary.{headRules, regionRules, entryRows, entryRules, checks, sorted, width, count, offset, start, end, region, name, cuts}
 
 -- PLACES
@@ -76,11 +76,3 @@ module _ (d : List ℕ) where
   pub by-region : Passed (headRules d) → {f : Found} → first (regionRules (region d)) ≡ f → checks d ≡ (f orElse first (each (entryRules d) (count d)))
   unfolding checks
   by-region h e = goes _ (first-pass (headRules d) h) ∙ rw e
-
-  -- what passing means for an entry's offsets
-  pub in-range : (k : ℕ) → checks d ≡ pass → k < count d → (offset d k ≤ offset d (k + 1)) × (offset d (k + 1) ≤ length (region d))
-  unfolding checks entryRules
-  in-range k e p =
-      let rest = both-pass (first (headRules d)) _ e .1 in
-      let rows = each-passed (entryRules d) (count d) (both-pass (first (regionRules (region d))) _ rest .1) k p in
-      (rows .0 .1 .0, rows .0 .1 .1 .0)

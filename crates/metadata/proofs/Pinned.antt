@@ -1,6 +1,6 @@
 -- Each public call's promise fixes its whole answer, and the lent room after it: two answers that meet it are equal. Each answer is read back
 -- out of document 01's numbers, so no two cases have the same. Assumes nothing.
-use mathlib.Core.Path.{_≡_, refl, sym, ap, ap₂, _∙_}
+use mathlib.Core.Path.{_≡_, refl, sym, ap, _∙_}
 use mathlib.Core.Bool.{cond}
 use mathlib.Core.List.{List}
 use Prim.Native.Nat.{ℕ, _+_}
@@ -53,8 +53,7 @@ pub by-number : (r : Refusal) {c : ℕ} → refusalNumber r ≡ c → r ≡ refu
 by-number r e = rw (← e) (sym (refusal-back (λ x. x) TooLong r))
 
 pub refusal-injective : (r q : Refusal) → refusalNumber r ≡ refusalNumber q → refusalPlace r ≡ refusalPlace q → r ≡ q
-refusal-injective r q c p =
-    sym (refusal-back (λ x. x) TooLong r) ∙ ap₂ (refusalBy (λ x. x) TooLong) c p ∙ refusal-back (λ x. x) TooLong q
+refusal-injective r q c p = by-number r c ∙ rw p (refusal-back (λ x. x) TooLong q)
 
 -- two values that read back out of the same answer are equal
 pub by-back : {A B : Type 0} (f : A → B) (back : B → A) → ((a : A) → back (f a) ≡ a) → (a b : A) → f a ≡ f b → a ≡ b

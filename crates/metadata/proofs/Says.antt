@@ -3,10 +3,14 @@
 use mathlib.Core.Path.{_≡_, sym, _∙_}
 use mathlib.Core.Bool.{true, false}
 use mathlib.Core.Logic.{_↔_}
-use mathlib.Core.List.{List, _++_}
+use mathlib.Core.List.{List, [], _++_}
 use Prim.Native.Nat.{ℕ, _≤_, _<_}
+use native.Mathlib.Omega.{arith}
+use borrow.Author.Tests.{lt-ltb, le-ltb}
 use lib.ListN.{length, drop}
-use Rattle.rules.proofs.Laws.{swap, false-true, meant-stop}
+use Rattle.rules.specs.Rules.{refuse, accept}
+use Rattle.rules.specs.Rules.Test.{_<?_, _≤?_}
+use Rattle.rules.proofs.Laws.{swap, false-true, unless, first-at, first-pass, refused, answered, meant-stop}
 use Rattle.metadata.specs.declared.Refusal.{Refusal}
 use Rattle.metadata.specs.declared.Span.{Span}
 use Rattle.metadata.specs.declared.Header.{Header}
@@ -14,7 +18,7 @@ use Rattle.metadata.specs.declared.Verdict.the-variants as verdict
 use Rattle.metadata.specs.declared.Entry.the-variants as entry
 use Rattle.metadata.specs.declared.Written.the-variants as written
 use Rattle.metadata.specs.declared.Head.the-variants as head
-use Rattle.metadata.specs.Dictionary.{emptyBytes}
+use Rattle.metadata.specs.Dictionary.{emptyBytes, emptied, roomAfter}
 use Rattle.metadata.specs.Answers.{refusalNumber, refusalPlace}
 use Rattle.metadata.specs.Meaning.{Dictionary, Refusal as Due, Named, NoEntry}
 use Rattle.metadata.specs.Steps.{CheckedOf}
@@ -24,7 +28,6 @@ use Rattle.metadata.proofs.Accepts.{accepts}
 use Rattle.metadata.proofs.Refuses.{is-due, refuses}
 use Rattle.metadata.proofs.Names.{named, no-entry, refused-is}
 use Rattle.metadata.proofs.Pinned.{refusalBy, refusal-back}
-use Rattle.metadata.proofs.Empty.{too-small, enough, no-room, is-written}
 
 -- no case of a refusal has the number 31
 not-31 : (r : Refusal) → refusalNumber r ≡ 31 → ⊥
@@ -58,15 +61,32 @@ module _ (d : List ℕ) where
     get-refused r = swap (refused-is d i (refusalNumber r) (refusalPlace r) (not-31 r))
 
 -- `write_empty`
-module _ (room after : List ℕ) where
-  pub empty-written : WriteEmptyPromise room written.Written after ↔ ((3 ≤ length room) × (after ≡ emptyBytes ++ drop 3 room))
-  empty-written = (
-    λ w. let h = is-written room .0 (sym (w .answers)) in (h, w .leaves ∙ enough room h .1),
-    λ k. let w = enough room (k .0) in record { answers = sym (w .0); leaves = k .1 ∙ sym (w .1) },
+module _ (room : List ℕ) where
+  pub too-small : length room < 3 → (emptied room ≡ refuse 42 0) × (roomAfter room ≡ room)
+  unfolding emptied roomAfter
+  too-small h = (refused _ (first-at 0 _ h), rw (lt-ltb _ _ h))
+
+  pub enough : 3 ≤ length room → (emptied room ≡ accept []) × (roomAfter room ≡ emptyBytes ++ drop 3 room)
+  unfolding emptied roomAfter
+  enough h = (answered _ (first-pass _ (h, tt)), rw (le-ltb _ _ h))
+
+  never-both : emptied room ≡ refuse 42 0 → emptied room ≡ accept [] → ⊥
+  never-both a b = let z : _≡_ {A = ℕ} 0 42 = cc in omega arith
+
+  pub no-room : (emptied room ≡ refuse 42 0) ↔ (length room < 3)
+  no-room = (λ e. unless (3 ≤? length room) (λ h. never-both e (enough h .0)), λ h. too-small h .0)
+
+  pub is-written : (emptied room ≡ accept []) ↔ (3 ≤ length room)
+  is-written = (λ e. unless (length room <? 3) (λ h. never-both (too-small h .0) e), λ h. enough h .0)
+
+  pub empty-no-room : (after : List ℕ) → WriteEmptyPromise room written.NoRoom after ↔ ((length room < 3) × (after ≡ room))
+  empty-no-room after = (
+    λ w. let h = no-room .0 (sym (w .answers)) in (h, w .leaves ∙ too-small h .1),
+    λ k. let w = too-small (k .0) in record { answers = sym (w .0); leaves = k .1 ∙ sym (w .1) },
   )
 
-  pub empty-no-room : WriteEmptyPromise room written.NoRoom after ↔ ((length room < 3) × (after ≡ room))
-  empty-no-room = (
-    λ w. let h = no-room room .0 (sym (w .answers)) in (h, w .leaves ∙ too-small room h .1),
-    λ k. let w = too-small room (k .0) in record { answers = sym (w .0); leaves = k .1 ∙ sym (w .1) },
+  pub empty-written : (after : List ℕ) → WriteEmptyPromise room written.Written after ↔ ((3 ≤ length room) × (after ≡ emptyBytes ++ drop 3 room))
+  empty-written after = (
+    λ w. let h = is-written .0 (sym (w .answers)) in (h, w .leaves ∙ enough h .1),
+    λ k. let w = enough (k .0) in record { answers = sym (w .0); leaves = k .1 ∙ sym (w .1) },
   )

@@ -81,12 +81,6 @@ decides (t or u) false = (
   λ h. rw (decides t false .1 (h .0)) (decides u false .1 (h .1)),
 )
 
-is-held : (t : Test) → Holds t → holds t ≡ true
-is-held t h = decides t true .1 h
-
-is-failed : (t : Test) → Fails t → holds t ≡ false
-is-failed t f = decides t false .1 f
-
 -- a choice by a test, from what it says either way
 pub by-test : (t : Test) {A : Type 0} (P : A → Type 0) {x y : A} → (Holds t → P x) → (Fails t → P y) → P (cond (holds t) x y)
 by-test t P {x} {y} f g = go (holds t) refl
@@ -106,7 +100,7 @@ pub surely : (t : Test) → (Fails t → ⊥) → Holds t
 surely t n = either-way t (λ h. h) (λ f. absurd (n f))
 
 pub never : (t : Test) → Fails t → Holds t → ⊥
-never t f h = let z : false ≡ true = sym (is-failed t f) ∙ is-held t h in false-true z
+never t f h = let z : false ≡ true = sym (decides t false .1 f) ∙ decides t true .1 h in false-true z
 
 -- ONE TABLE
 
@@ -114,14 +108,14 @@ never t f h = let z : false ≡ true = sym (is-failed t f) ∙ is-held t h in fa
 pub first-at : (k : ℕ) (rows : List Rule) → At k rows → first rows ≡ refusalAt k rows
 unfolding first
 first-at k [] h = absurd h
-first-at zero ((t ⇒ c at p) ∷ rows) h = rw (is-held t h)
-first-at (suc k) ((t ⇒ c at p) ∷ rows) h = rw (is-failed t (h .0)) (first-at k rows (h .1))
+first-at zero ((t ⇒ c at p) ∷ rows) h = rw (decides t true .1 h)
+first-at (suc k) ((t ⇒ c at p) ∷ rows) h = rw (decides t false .1 (h .0)) (first-at k rows (h .1))
 
 -- a table passes exactly where no row holds
 pub first-pass : (rows : List Rule) → Passed rows → first rows ≡ pass
 unfolding first
 first-pass [] h = refl
-first-pass ((t ⇒ c at p) ∷ rows) h = rw (is-failed t (h .0)) (first-pass rows (h .1))
+first-pass ((t ⇒ c at p) ∷ rows) h = rw (decides t false .1 (h .0)) (first-pass rows (h .1))
 
 pub passed : (rows : List Rule) → first rows ≡ pass → Passed rows
 unfolding first
@@ -287,14 +281,12 @@ pub meant-map : {A C : Type 0} {B D : ℕ → ℕ → Type 0} {f : Found} → (A
 meant-map g h (all-pass a) = all-pass (g a)
 meant-map g h (one-stops {code = c} {place = p} b) = one-stops (h c p b)
 
-of-pass : {A : Type 0} {B : ℕ → ℕ → Type 0} → Meant A B pass → A
-of-pass (all-pass a) = a
-
 of-stop : {A : Type 0} {B : ℕ → ℕ → Type 0} {c p : ℕ} → Meant A B (stop c p) → B c p
 of-stop (one-stops b) = b
 
 pub meant-pass : {A : Type 0} {B : ℕ → ℕ → Type 0} {f : Found} → Meant A B f → f ≡ pass → A
-meant-pass m e = of-pass (rw e at m)
+meant-pass (all-pass a) e = a
+meant-pass (one-stops b) e = stop-pass e
 
 pub meant-stop : {A : Type 0} {B : ℕ → ℕ → Type 0} {f : Found} {c p : ℕ} → Meant A B f → f ≡ stop c p → B c p
 meant-stop m e = of-stop (rw e at m)
@@ -310,11 +302,11 @@ kept lifted (r ∷ rows) [] k = absurd k
 kept lifted ((t ⇒ c at p) ∷ rows) ((u ⇒ d at q) ∷ rows′) k =
     by-test t (λ x. Stays lifted x (cond (holds u) (stop d q) (first rows′)))
     (λ h. go (lifted c) (k .0 .3) h)
-    (λ f. rw (is-failed u (k .0 .2 f)) (kept lifted rows rows′ (k .1 f)))
+    (λ f. rw (decides u false .1 (k .0 .2 f)) (kept lifted rows rows′ (k .1 f)))
   where
     go : (b : Bool) → Stands b t u → Holds t → b ≡ false → cond (holds u) (stop d q) (first rows′) ≡ stop c p
     go true w h e = false-true (sym e)
-    go false w h e = rw (is-held u (w h), k .0 .0, k .0 .1)
+    go false w h e = rw (decides u true .1 (w h), k .0 .0, k .0 .1)
 
 pub same-stays : (lifted : ℕ → Bool) (f : Found) → Stays lifted f f
 same-stays lifted pass = refl

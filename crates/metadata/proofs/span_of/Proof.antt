@@ -1,6 +1,7 @@
 -- `metadata::span_of` meets its contract: a checked dictionary's offsets do not fall and stay in the region. Assumes nothing.
 use native.Mathlib.Omega.{arith}
-use Rattle.metadata.proofs.Laws.{end-is, region-length, in-range, name-part}
+use Rattle.metadata.proofs.Laws.{end-is, region-length, name-part}
+use Rattle.metadata.proofs.Means.{good}
 use borrow.Author.Needs.{needs}
 use Rattle.metadata.proofs.span_of.Statement.{statement}
 use Rattle.metadata.proofs.span_of.Tie as tie
@@ -18,11 +19,11 @@ span-of-spec =
     let d = s .args .dict .now in
     let i = s .args .i in
     let header = s .pre .0 .0 in
-    let r = in-range d i (s .pre .0 .1) (s .pre .1) in
+    let r = good d (s .pre .0 .1) .entries i (s .pre .1) .in-range in
     record {
       start-is = omega arith;
       end-is = omega arith;
       rises = omega arith;
       inside = omega (arith, end-is d, region-length d (omega arith));
-      name-is = rw (header .start-is, c .before .offset-at .ensures .0, c .offset-at2 .ensures .0) (name-part d i (omega arith) (r .1));
+      name-is = rw (header .start-is, c .before .offset-at .ensures .0, c .offset-at2 .ensures .0) (name-part d i (omega arith) (r .stays));
     }))  -- returns

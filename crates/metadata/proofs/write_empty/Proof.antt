@@ -6,7 +6,7 @@ use borrow.Author.Needs.{needs}
 use lib.ListN.{length, length-set}
 use lib.Seq.{sets-eq}
 use Rattle.metadata.specs.Dictionary.{emptyBytes}
-use Rattle.metadata.proofs.Empty.{too-small, enough}
+use Rattle.metadata.proofs.Says.{too-small, enough}
 use Rattle.metadata.proofs.write_empty.Statement.{statement}
 use Rattle.metadata.proofs.write_empty.Tie as tie
 
