@@ -134,22 +134,20 @@ fn read_header(dict: &[u8]) -> Head
     if lead.version != 1 {
         return Head::Refused(Refusal::Version);
     }
-    let width = lead.width;
-    if dict.len() < 1 + width {
+    if dict.len() < 1 + lead.width {
         return Head::Refused(Refusal::Short);
     }
-    let places = places_of(dict, width);
-    let start = places.start;
-    if U32_MAX < start {
+    let places = places_of(dict, lead.width);
+    if U32_MAX < places.start {
         return Head::Refused(Refusal::Sum);
     }
-    if dict.len() < start {
+    if dict.len() < places.start {
         return Head::Refused(Refusal::Short);
     }
-    if offset_at(dict, width, 0) != 0 {
+    if offset_at(dict, lead.width, 0) != 0 {
         return Head::Refused(Refusal::FirstOffset);
     }
-    let end = end_of(dict, width, places);
+    let end = end_of(dict, lead.width, places);
     if U32_MAX < end {
         return Head::Refused(Refusal::Sum);
     }
@@ -157,10 +155,10 @@ fn read_header(dict: &[u8]) -> Head
         return Head::Refused(Refusal::Short);
     }
     Head::Good(Header {
-        width,
+        width: lead.width,
         sorted: lead.sorted,
         count: places.count,
-        start,
+        start: places.start,
         end,
     })
 }
