@@ -1,25 +1,42 @@
 -- The listing is accepted exactly when the layer is and there is room; it says 41 exactly when the layer is accepted and there is not; and it
 -- refuses otherwise as the verdict does. Assumes nothing.
-use mathlib.Core.Path.{_≡_, _∙_}
+use mathlib.Core.Path.{_≡_, refl, _∙_}
 use mathlib.Core.Logic.{_↔_, _⊎_, ⊎-elim}
+use mathlib.Core.Logic._⊎_.{inl, inr}
 use mathlib.Core.List.{List, [], _∷_}
-use Prim.Native.Nat.{ℕ, _*_, _<_}
+use Prim.Native.Nat.{ℕ, _*_}
 use native.Mathlib.Omega.{arith}
 use lib.ListN.{length}
-use Rattle.rules.specs.Rules.{accept, refuse}
+use Rattle.rules.specs.Rules.{Answer, accept, refuse}
 use Rattle.rules.specs.Rules.Test.{_<?_}
 use Rattle.rules.specs.Rules.Rule.{_⇒_at_}
 use Rattle.rules.specs.Rules.Found.{pass, stop}
-use Rattle.rules.proofs.Laws.{let-through, turned-down, last-row, both-pass, passed, answered, refused, goes, stops, first-at, first-pass, meant-stop}
-use Rattle.object.specs.Object.{count, start, end, layer, checks}
-use Rattle.object.specs.Meaning.{Layer, Refusal}
-use Rattle.object.proofs.Means.{checks-mean, good}
+use Rattle.rules.proofs.Laws.{Meant, answered, refused, goes, stops, first-at, first-pass, by-rows, meant-then, meant-map, by-meaning}
+use Rattle.object.specs.Object.{count, start, end}
+use Rattle.object.specs.Meaning.{Refusal}
+use Rattle.object.proofs.Means.{checks-mean}
 use Rattle.object.proofs.Accepts.{all-pass}
 use Rattle.object.proofs.Refuses.{is-due, checks-code}
 use Rattle.listing.specs.Words.{listChecks, listed}
 use Rattle.listing.specs.Meaning.{Listed, NoRoom}
 
 module _ (d o w : List ℕ) where
+  -- WHAT IS SO OF EACH CASE IS SO OF THE ANSWER
+  abbrev Ours : ℕ → ℕ → Type 0
+  Ours c p = Refusal d o c p ⊎ (NoRoom d o w × (41 ≡ c) × (0 ≡ p))
+
+  list-means : Meant (Listed d o w (count o) (start o) (end o)) Ours (listChecks d o w)
+  unfolding listChecks
+  list-means =
+      meant-then _ (meant-map (λ g. g) (λ c p. inl) (checks-mean d o)) λ g.
+      by-rows _ Ours ((length w <? 3 * count o ⇒ 41 at 0) ∷ []) ((λ h. inr (record { accepted = g; short = h }, refl, refl)), λ f. record { accepted = g; room = f })
+
+  pub by-answer : (P : Answer → Type 0) → ((n v e : ℕ) → Listed d o w n v e → P (accept (n ∷ v ∷ e ∷ []))) → (NoRoom d o w → P (refuse 41 0))
+      → ((c p : ℕ) → Refusal d o c p → P (refuse c p)) → P (listed d o w)
+  unfolding listed
+  by-answer P is-listed is-full is-refused =
+      by-meaning P _ list-means (is-listed _ _ _) (λ c p r. ⊎-elim (is-refused c p) (λ f. rw (f .1, f .2) at (is-full (f .0))) r)
+
   -- EACH ANSWER'S CHECKS
   pub all-listed : (n v e : ℕ) → Listed d o w n v e → listChecks d o w ≡ pass
   unfolding listChecks
@@ -33,35 +50,28 @@ module _ (d o w : List ℕ) where
   unfolding listChecks
   refusal-stops r = stops _ (is-due d o r)
 
-  stopped : {c p : ℕ} → listed d o w ≡ refuse c p → (checks d o ≡ stop c p) ⊎ ((checks d o ≡ pass) × (length w < 3 * count o) × (c ≡ 41) × (p ≡ 0))
-  unfolding listed listChecks
-  stopped a = last-row (checks d o) (length w <? 3 * count o) 41 0 (turned-down (listChecks d o w) (count o) (start o ∷ end o ∷ []) a)
-
-  is-listed : (n v e : ℕ) → listed d o w ≡ accept (n ∷ v ∷ e ∷ []) → Listed d o w n v e
-  unfolding listed listChecks
-  is-listed n v e a =
-      let through = let-through (listChecks d o w) (layer o) a in
-      let both = both-pass (checks d o) _ (through .0) in
-      let room = passed ((length w <? 3 * count o ⇒ 41 at 0) ∷ []) (both .1) in
-      let n-is : n ≡ count o = cc in
-      let v-is : v ≡ start o = cc in
-      let e-is : e ≡ end o = cc in
-      record { accepted = rw (n-is, v-is, e-is) (good d o (both .0)); room = omega arith }
-
   -- THE THEOREMS
   pub listed-is : (n v e : ℕ) → (listed d o w ≡ accept (n ∷ v ∷ e ∷ [])) ↔ Listed d o w n v e
   unfolding listed
-  listed-is n v e =
-      (is-listed n v e, λ l. let a = l .accepted in rw (a .counts, a .starts, a .ends) (answered _ (all-listed n v e l)))
+  listed-is n v e = (
+    by-answer (λ x. x ≡ accept (n ∷ v ∷ e ∷ []) → Listed d o w n v e)
+    (λ m s t l q. let n-is : m ≡ n = cc in let v-is : s ≡ v = cc in let e-is : t ≡ e = cc in rw (n-is, v-is, e-is) at l)
+    (λ _ q. let z : _≡_ {A = ℕ} 0 1 = cc in absurd (omega arith)) (λ c p _ q. let z : _≡_ {A = ℕ} 0 1 = cc in absurd (omega arith)),
+    λ l. let a = l .accepted in rw (a .counts, a .starts, a .ends) (answered _ (all-listed n v e l)),
+  )
 
   pub no-room-is : (listed d o w ≡ refuse 41 0) ↔ NoRoom d o w
   unfolding listed
   no-room-is = (
-    λ a. ⊎-elim (λ e. absurd (omega (arith, checks-code d o e))) (λ r. record { accepted = good d o (r .0); short = r .1 }) (stopped a),
+    by-answer (λ x. x ≡ refuse 41 0 → NoRoom d o w) (λ n v e _ q. let z : _≡_ {A = ℕ} 0 1 = cc in absurd (omega arith)) (λ r q. r)
+    (λ c p r q. let z : c ≡ 41 = cc in absurd (omega (arith, checks-code d o (is-due d o r)))),
     λ r. refused _ (no-room-stops r),
   )
 
   pub refused-is : (c p : ℕ) → (c ≡ 41 → ⊥) → (listed d o w ≡ refuse c p) ↔ Refusal d o c p
   unfolding listed
-  refused-is c p n =
-      (λ a. ⊎-elim (λ e. meant-stop (checks-mean d o) e) (λ r. absurd (n (r .2))) (stopped a), λ r. refused _ (refusal-stops r))
+  refused-is c p n = (
+    by-answer (λ x. x ≡ refuse c p → Refusal d o c p) (λ m v e _ q. let z : _≡_ {A = ℕ} 0 1 = cc in absurd (omega arith))
+    (λ _ q. let z : c ≡ 41 = cc in absurd (n z)) (λ b r due q. let c-is : b ≡ c = cc in let p-is : r ≡ p = cc in rw (c-is, p-is) at due),
+    λ r. refused _ (refusal-stops r),
+  )

@@ -19,7 +19,7 @@ use Rattle.object.proofs.Laws.{passes, entry-of}
 use Rattle.object.proofs.Means.{good}
 use Rattle.object.proofs.Appended.{lifted, Settled, unlifted, counted, count-same, start-same, offset-same, end-same, field-same, checks-kept}
 use Rattle.lookup.specs.ByName.{found, lookup, startOf, endOf}
-use Rattle.lookup.proofs.Finds.{child-inside}
+use Rattle.lookup.proofs.Found.{child-inside}
 
 module _ (d t o u q : List ℕ) where
   found-same : checks d o ≡ pass → found (o ++ u) (seek (fieldName (d ++ t) (o ++ u)) q (count (o ++ u))) ≡ found o (seek (fieldName d o) q (count o))

@@ -1,37 +1,49 @@
 -- The lookup finds field k exactly when the layer is accepted and k is its field of that name; it says absent exactly when the layer is
 -- accepted and has no such field; it refuses as the verdict does; and never two fields have one name. Assumes nothing.
-use mathlib.Core.Path.{_≡_, refl, _∙_}
+use mathlib.Core.Path.{_≡_, refl, sym, _∙_}
 use mathlib.Core.Logic.{_↔_}
 use mathlib.Core.List.{List, [], _∷_}
-use Prim.Native.Nat.{ℕ, _<_}
+use Prim.Native.Nat.{ℕ, _≤_, _<_}
 use native.Mathlib.Omega.{arith}
+use lib.ListN.{length}
 use Rattle.names.specs.Search.{Sought, seek}
 use Rattle.names.specs.Search.Sought.{nowhere, here}
 use Rattle.names.proofs.Search as names
-use Rattle.rules.specs.Rules.{Found as Outcome, accept, refuse, _otherwise_}
-use Rattle.rules.specs.Rules.Found.{pass, stop}
-use Rattle.rules.proofs.Laws.{answered, refused, meant-stop}
-use Rattle.object.specs.Object.{count, fieldName, checks}
+use Rattle.rules.specs.Rules.{Answer, accept, refuse}
+use Rattle.rules.specs.Rules.Found.{stop}
+use Rattle.rules.proofs.Laws.{answered, refused, meant-map, by-meaning}
+use Rattle.object.specs.Object.{count, start, end, fieldName, checks}
 use Rattle.object.specs.Meaning.{Layer, Refusal}
-use Rattle.object.proofs.Laws.{names-rise}
-use Rattle.lookup.proofs.Finds.{found-at}
-use Rattle.object.proofs.Means.{checks-mean, good}
+use Rattle.object.proofs.Laws.{names-rise, end-is}
+use Rattle.object.proofs.Means.{checks-mean}
 use Rattle.object.proofs.Accepts.{all-pass}
 use Rattle.object.proofs.Refuses.{is-due, checks-code}
-use Rattle.lookup.specs.ByName.{absent, found as foundFor, lookup}
+use Rattle.lookup.specs.ByName.{absent, found as foundFor, lookup, startOf, endOf}
 use Rattle.lookup.specs.Meaning.{Found, Absent}
 
 module _ (d o q : List ℕ) where
-  -- what was sought
-  abbrev sought : Sought
-  sought = seek (fieldName d o) q (count o)
+  abbrev Good : Type 0
+  Good = Layer d o (count o) (start o) (end o)
+
+  -- WHAT IS SO OF EACH CASE IS SO OF THE ANSWER
+  pub by-answer : (P : Answer → Type 0) → ((k a e : ℕ) → Found d o q k a e → P (accept (k ∷ a ∷ e ∷ []))) → (Absent d o q → P absent)
+      → ((c p : ℕ) → Refusal d o c p → P (refuse c p)) → P (lookup d o q)
+  unfolding lookup
+  by-answer P is-found is-absent is-refused = by-meaning P _ (checks-mean d o) (λ g. go g (seek (fieldName d o) q (count o)) refl) is-refused
+    where
+      go : Good → (s : Sought) → seek (fieldName d o) q (count o) ≡ s → P (foundFor o s)
+      go g nowhere e = is-absent (record { accepted = g; no-field = names.seek-nowhere (fieldName d o) q (count o) e })
+      go g (here k) e =
+          let at = names.seek-at (fieldName d o) q (count o) k e in
+          is-found k _ _ (record { accepted = g; is-field = at .0; is-name = at .1; starts = refl; ends = refl })
 
   -- FOUND
   is-there : (k a e : ℕ) → lookup d o q ≡ accept (k ∷ a ∷ e ∷ []) → Found d o q k a e
-  is-there k a e v =
-      let f = found-at d o q k a e v in
-      let at = names.seek-at (fieldName d o) q (count o) k (f .sought) in
-      record { accepted = good d o (f .accepted); is-field = at .0; is-name = at .1; starts = f .starts; ends = f .ends }
+  is-there k a e =
+      by-answer (λ x. x ≡ accept (k ∷ a ∷ e ∷ []) → Found d o q k a e)
+      (λ j b f is w. let k-is : j ≡ k = cc in let a-is : b ≡ a = cc in let e-is : f ≡ e = cc in rw (k-is, a-is, e-is) at is)
+      (λ _ w. let z : _≡_ {A = ℕ} 0 1 = cc in absurd (omega arith))
+      (λ c p _ w. let z : _≡_ {A = ℕ} 0 1 = cc in absurd (omega arith))
 
   is-found : (k a e : ℕ) → Found d o q k a e → lookup d o q ≡ accept (k ∷ a ∷ e ∷ [])
   unfolding lookup
@@ -42,35 +54,21 @@ module _ (d o q : List ℕ) where
       answered _ c ∙ rw (names.seek-last (fieldName d o) q (count o) k (f .is-field) (f .is-name) only, f .starts, f .ends)
 
   -- ABSENT
-  is-nowhere : lookup d o q ≡ absent → (checks d o ≡ pass) × (sought ≡ nowhere)
-  unfolding lookup _otherwise_
-  is-nowhere v = go (checks d o) refl sought refl v
-    where
-      go : (f : Outcome) → checks d o ≡ f → (s : Sought) → sought ≡ s → (f otherwise foundFor o s) ≡ absent → (checks d o ≡ pass) × (sought ≡ nowhere)
-      go pass e nowhere w v = (e, w)
-      go pass e (here k) w v = let z : _≡_ {A = ℕ} 0 1 = cc in absurd (omega arith)
-      go (stop c p) e s w v =
-          let z : c ≡ 1 = cc in
-          absurd (omega (arith, checks-code d o e))
-
   none-there : lookup d o q ≡ absent → Absent d o q
-  none-there v =
-      let n = is-nowhere v in
-      record { accepted = good d o (n .0); no-field = names.seek-nowhere (fieldName d o) q (count o) (n .1) }
+  none-there =
+      by-answer (λ x. x ≡ absent → Absent d o q) (λ k a e _ w. let z : _≡_ {A = ℕ} 0 1 = cc in absurd (omega arith)) (λ none w. none)
+      (λ c p r w. let z : c ≡ 1 = cc in absurd (omega (arith, checks-code d o (is-due d o r))))
 
   is-absent : Absent d o q → lookup d o q ≡ absent
   unfolding lookup
   is-absent a = answered _ (all-pass d o _ _ _ (a .accepted)) ∙ rw (names.seek-none (fieldName d o) q (count o) (a .no-field))
 
   -- REFUSED
-  turned-down : (c p : ℕ) → (c ≡ 1 → ⊥) → lookup d o q ≡ refuse c p → checks d o ≡ stop c p
-  unfolding lookup _otherwise_
-  turned-down c p n v = go (checks d o) sought v
-    where
-      go : (f : Outcome) (s : Sought) → (f otherwise foundFor o s) ≡ refuse c p → f ≡ stop c p
-      go pass nowhere v = let z : c ≡ 1 = cc in absurd (n z)
-      go pass (here k) v = let z : _≡_ {A = ℕ} 0 1 = cc in absurd (omega arith)
-      go (stop b r) s v = cc
+  turned-down : (c p : ℕ) → (c ≡ 1 → ⊥) → lookup d o q ≡ refuse c p → Refusal d o c p
+  turned-down c p n =
+      by-answer (λ x. x ≡ refuse c p → Refusal d o c p) (λ k a e _ w. let z : _≡_ {A = ℕ} 0 1 = cc in absurd (omega arith))
+      (λ _ w. let z : c ≡ 1 = cc in absurd (n z))
+      (λ b r due w. let c-is : b ≡ c = cc in let p-is : r ≡ p = cc in rw (c-is, p-is) at due)
 
   -- THE THEOREMS
   pub found : (k a e : ℕ) → (lookup d o q ≡ accept (k ∷ a ∷ e ∷ [])) ↔ Found d o q k a e
@@ -81,8 +79,15 @@ module _ (d o q : List ℕ) where
 
   pub refused-is : (c p : ℕ) → (c ≡ 1 → ⊥) → (lookup d o q ≡ refuse c p) ↔ Refusal d o c p
   unfolding lookup
-  refused-is c p n = (λ v. meant-stop (checks-mean d o) (turned-down c p n v), λ r. refused _ (is-due d o r))
+  refused-is c p n = (turned-down c p n, λ r. refused _ (is-due d o r))
 
   pub once : (n v e i j : ℕ) → Layer d o n v e → i < n → j < n → fieldName d o i ≡ q → fieldName d o j ≡ q → i ≡ j
   once n v e i j l p r a b =
       names.once (fieldName d o) q (count o) (names-rise d o (all-pass d o n v e l)) i j (omega arith) (omega arith) a b
+
+  -- where the child lies there are bytes; on absence or refusal it is nothing, at the start
+  pub found-inside : (k a e : ℕ) → Found d o q k a e → (a ≤ e) × (e ≤ length o)
+  found-inside k a e f = (omega (arith, end-is o, f .accepted .offsets k (f .is-field)), omega arith)
+
+  pub child-inside : (startOf (lookup d o q) ≤ endOf (lookup d o q)) × (endOf (lookup d o q) ≤ length o)
+  child-inside = by-answer (λ x. (startOf x ≤ endOf x) × (endOf x ≤ length o)) found-inside (λ _. omega arith) (λ c p _. omega arith)

@@ -1,4 +1,3 @@
-pub mod Finds
 pub mod Found
 pub mod Pinned
 pub mod Appended

@@ -291,6 +291,13 @@ meant-pass (one-stops b) e = stop-pass e
 pub meant-stop : {A : Type 0} {B : ℕ → ℕ → Type 0} {f : Found} {c p : ℕ} → Meant A B f → f ≡ stop c p → B c p
 meant-stop m e = of-stop (rw e at m)
 
+-- an answer after its checks, by what passing means and what each refusal means
+pub by-meaning : {A : Type 0} {B : ℕ → ℕ → Type 0} {f : Found} (P : Answer → Type 0) (x : Answer) → Meant A B f → (A → P x)
+    → ((c p : ℕ) → B c p → P (refuse c p)) → P (f otherwise x)
+unfolding _otherwise_
+by-meaning P x (all-pass a) passes refuses = passes a
+by-meaning P x (one-stops {code = c} {place = p} b) passes refuses = refuses c p b
+
 -- BYTES ADDED
 
 -- tables that are kept row by row come to the same, but for what more bytes lift

@@ -3,7 +3,7 @@ use mathlib.Core.Path.{sym, ap, _∙_}
 use native.Mathlib.Omega.{arith}
 use borrow.Author.Needs.{needs}
 use Rattle.lookup.specs.Answers.{lookupNumbers}
-use Rattle.lookup.proofs.Finds.{found-at, found-inside}
+use Rattle.lookup.proofs.Found.{found, found-inside}
 use Rattle.lookup.proofs.child_place.Statement.{statement}
 use Rattle.lookup.proofs.child_place.Tie as tie
 
@@ -21,5 +21,5 @@ child-place-spec =
     record { start-is = rw e; end-is = rw e; rises = omega arith; inside = omega arith })  -- returns-2
     (λ c. let e = sym (c .before .before .before .get .ensures) ∙ ap lookupNumbers (c .before .found .given .1) in
     let a = c .before .before .before .before .before .before .before .args in
-    let inside = found-inside _ _ _ _ _ _ (found-at (a .dict .now) (a .object .now) (a .name .now) _ _ _ e) in
+    let inside = found-inside _ _ _ _ _ _ (found (a .dict .now) (a .object .now) (a .name .now) _ _ _ .0 e) in
     record { start-is = rw e; end-is = rw e; rises = inside .0; inside = inside .1 }))  -- returns-3
