@@ -1,12 +1,13 @@
 -- Every number of the dictionary's answers fits 32 bits: what an accepted one gives, and each refusal's number and place. Assumes nothing.
 use mathlib.Core.Path.{_≡_}
 use mathlib.Core.List.{List}
-use Prim.Native.Nat.{ℕ, _+_, _<_}
+use Prim.Native.Nat.{ℕ, _+_, _≤_, _<_}
 use native.Mathlib.Nat.{mul-le-mul-right}
 use native.Mathlib.Omega.{arith}
 use Rattle.utf8.proofs.Laws.{text-le}
+use Rattle.rules.specs.Rules.{Passed}
 use Rattle.rules.specs.Rules.Found.{stop}
-use Rattle.rules.proofs.Laws.{meant-then, meant-stop, rows-mean, each-means}
+use Rattle.rules.proofs.Laws.{Meant, meant-then, meant-stop, rows-mean, each-means}
 use Rattle.metadata.specs.Limits.{u32Max}
 use Rattle.metadata.specs.Dictionary.{width, count, offset, start, end, region, headRules, regionRules, entryRules, checks}
 use Rattle.metadata.specs.Meaning.{Dictionary, Refusal}
@@ -27,17 +28,22 @@ count-below d = omega (arith, mul-le-mul-right {m = 1} {n = width d} (count d + 
 pub small-zero : (c : ℕ) → c < 100 → Small c 0
 small-zero c h = omega arith
 
-checks-small : (d : List ℕ) {c p : ℕ} → checks d ≡ stop c p → Small c p
+-- a refusal's number is 10 to 18, so that none is taken for another answer's
+abbrev pub Ours : ℕ → ℕ → Type 0
+Ours c p = (10 ≤ c) × (c < 19) × (p < 4294967296)
+
+pub checks-fit : (d : List ℕ) → Meant ((k : ℕ) → k < count d → Passed (entryRules d k)) Ours (checks d)
 unfolding checks entryRules u32Max
-checks-small d e =
-    meant-stop
-    (meant-then _ (rows-mean Small (headRules d) (omega arith)) λ head.
-    meant-then _ (rows-mean Small (regionRules (region d)) (omega (arith, end-is d, region-length d (omega arith), text-le (region d)))) λ _.
-    each-means Small (entryRules d) (count d) (λ k q. omega (arith, count-below d)))
-    e
+checks-fit d =
+    meant-then _ (rows-mean Ours (headRules d) (omega arith)) λ head.
+    meant-then _ (rows-mean Ours (regionRules (region d)) (omega (arith, end-is d, region-length d (omega arith), text-le (region d)))) λ _.
+    each-means Ours (entryRules d) (count d) (λ k q. omega (arith, count-below d))
+
+pub checks-code : (d : List ℕ) {c p : ℕ} → checks d ≡ stop c p → (10 ≤ c) × (c < 19) × (p < 4294967296)
+checks-code d e = meant-stop (checks-fit d) e
 
 pub refusal-small : (d : List ℕ) {c p : ℕ} → Refusal d c p → Small c p
-refusal-small d r = checks-small d (is-due d r)
+refusal-small d r = omega (arith, checks-code d (is-due d r))
 
 -- the count, the end, and where each name stands
 pub accepted-small : (d : List ℕ) → Dictionary d (count d) (end d) → Small (count d) (end d)

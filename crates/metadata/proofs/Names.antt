@@ -26,7 +26,8 @@ use Rattle.metadata.specs.Meaning.{Cut, Refusal, Named, NoEntry}
 use Rattle.metadata.proofs.Laws.{name-part}
 use Rattle.metadata.proofs.Means.{good, checks-mean}
 use Rattle.metadata.proofs.Accepts.{all-pass}
-use Rattle.metadata.proofs.Refuses.{is-due, checks-code}
+use Rattle.metadata.proofs.Refuses.{is-due}
+use Rattle.metadata.proofs.Fits.{checks-code}
 
 -- the region up to an offset that cuts no character is a text
 front : (d : List ℕ) (k : ℕ) → Text (region d) → (Cut d k → ⊥) → Text (take (offset d k) (region d))

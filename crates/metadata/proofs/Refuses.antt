@@ -3,15 +3,15 @@
 use mathlib.Core.Path.{_≡_, sym, _∙_}
 use mathlib.Core.Logic.{_↔_}
 use mathlib.Core.List.{List, [], _∷_}
-use Prim.Native.Nat.{ℕ, _≤_, _<_}
+use Prim.Native.Nat.{ℕ, _<_}
 use native.Mathlib.Omega.{arith}
 use Rattle.utf8.specs.Utf8.{textUpTo}
 use Rattle.utf8.proofs.Laws.{text-le, text-sound, text-longest}
 use Rattle.names.proofs.Laws.{not-below}
 use Rattle.rules.specs.Rules.{refuse, first}
 use Rattle.rules.specs.Rules.Found.{stop}
-use Rattle.rules.proofs.Laws.{_&_, surely, first-at, stops, turned-down, refused, each-pass, each-stop, meant-then, meant-stop, rows-mean, each-means}
-use Rattle.metadata.specs.Dictionary.{count, end, region, headRules, regionRules, entryRules, checks, verdict}
+use Rattle.rules.proofs.Laws.{_&_, surely, first-at, stops, turned-down, refused, each-pass, each-stop, meant-stop}
+use Rattle.metadata.specs.Dictionary.{count, end, region, regionRules, entryRules, checks, verdict}
 use Rattle.metadata.specs.Meaning.{Texted, GoodEntry, LongestText, Refusal}
 use Rattle.metadata.specs.Meaning.Refusal.{too-long, empty, other-version, count-cut, start-sum, start-short, first-offset, end-sum, end-short, no-text, bad-range, not-above}
 use Rattle.metadata.proofs.Laws.{by-head, by-region}
@@ -45,18 +45,6 @@ is-due d (no-text {p = p} b l) =
 is-due d (bad-range {k = k} t q g n) = by-entry d t q g (first-at 0 (entryRules d k) (surely (out d k) (λ f. n (passed-in d k f))))
 is-due d (not-above {k = k} t q g r s z n) =
     by-entry d t q g (first-at 1 (entryRules d k) (in-passed d k r & s & z & (sym (below-names d k z) ∙ not-below _ _ n)))
-
--- the dictionary's numbers are 10 to 18, so none is taken for another answer's
-abbrev Ours : ℕ → ℕ → Type 0
-Ours c p = (10 ≤ c) × (c < 19)
-
-pub checks-code : (d : List ℕ) {c p : ℕ} → checks d ≡ stop c p → (10 ≤ c) × (c < 19)
-unfolding checks entryRules
-checks-code d e =
-    meant-stop
-    (meant-then _ (rows-mean Ours (headRules d) (omega arith)) λ _.
-    meant-then _ (rows-mean Ours (regionRules (region d)) (omega arith)) λ _.
-    each-means Ours (entryRules d) (count d) (λ k q. omega arith)) e
 
 -- THE THEOREM
 pub refuses : (d : List ℕ) (c p : ℕ) → (verdict d ≡ refuse c p) ↔ Refusal d c p
