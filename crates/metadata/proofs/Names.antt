@@ -1,8 +1,9 @@
 -- The names of an accepted dictionary: exactly when a number gives a name, 31 or a refusal; the bytes where the answer says are the name, and
 -- well-formed text; and the names of a sorted dictionary increase, each before every later one. Assumes nothing.
-use mathlib.Core.Path.{_≡_, _∙_}
+use mathlib.Core.Path.{_≡_, refl, _∙_}
 use mathlib.Core.Bool.{true}
 use mathlib.Core.Logic.{_↔_, _⊎_, ⊎-elim}
+use mathlib.Core.Logic._⊎_.{inl, inr}
 use mathlib.Core.List.{List, [], _∷_}
 use Prim.Native.Nat.{ℕ, _+_, _-_, _≤_, _<_}
 use native.Mathlib.Decide.{decLt}
@@ -16,13 +17,13 @@ use Rattle.utf8.proofs.Laws.{chars}
 use Rattle.utf8.proofs.Bounds.{bound}
 use Rattle.names.specs.Search.{Rising}
 use Rattle.names.proofs.Search.{rising-all}
-use Rattle.rules.specs.Rules.{Found, accept, refuse, first, _orElse_}
+use Rattle.rules.specs.Rules.{Answer, Found, accept, refuse, first, _orElse_}
 use Rattle.rules.specs.Rules.Test.{_≤?_}
 use Rattle.rules.specs.Rules.Rule.{_⇒_at_}
-use Rattle.rules.specs.Rules.Found.{pass, stop}
-use Rattle.rules.proofs.Laws.{let-through, turned-down, answered, refused, stops, goes, both-pass, passed, first-at, first-pass, last-row, meant-stop}
-use Rattle.metadata.specs.Dictionary.{sorted, count, offset, start, region, name, checks, nameAt}
-use Rattle.metadata.specs.Meaning.{Cut, Refusal, Named, NoEntry}
+use Rattle.rules.specs.Rules.Found.{pass}
+use Rattle.rules.proofs.Laws.{Meant, answered, refused, stops, goes, first-at, first-pass, by-rows, meant-then, meant-map, by-meaning}
+use Rattle.metadata.specs.Dictionary.{sorted, count, offset, start, end, region, name, checks, nameAt}
+use Rattle.metadata.specs.Meaning.{Cut, Dictionary, Refusal, Named, NoEntry}
 use Rattle.metadata.proofs.Laws.{name-part}
 use Rattle.metadata.proofs.Means.{good, checks-mean}
 use Rattle.metadata.proofs.Accepts.{all-pass}
@@ -54,34 +55,46 @@ module _ (d : List ℕ) (i : ℕ) where
   abbrev asked : Found
   asked = checks d orElse first ((count d ≤? i ⇒ 31 at 0) ∷ [])
 
-  is-named : (a e : ℕ) → nameAt d i ≡ accept (a ∷ e ∷ []) → Named d i a e
-  unfolding nameAt
-  is-named a e v =
-      let through = let-through asked (accept ((start d + offset d i) ∷ (start d + offset d (i + 1)) ∷ [])) v in
-      let both = both-pass (checks d) _ (through .0) in
-      record { accepted = good d (both .0); is-entry = passed ((count d ≤? i ⇒ 31 at 0) ∷ []) (both .1) .0; starts = cc; ends = cc }
+  -- what is so of each case is so of the answer
+  abbrev Ours : ℕ → ℕ → Type 0
+  Ours c p = Refusal d c p ⊎ (NoEntry d i × (31 ≡ c) × (0 ≡ p))
 
-  stopped : {c p : ℕ} → nameAt d i ≡ refuse c p → (checks d ≡ stop c p) ⊎ ((checks d ≡ pass) × (count d ≤ i) × (c ≡ 31) × (p ≡ 0))
+  name-means : Meant (Dictionary d (count d) (end d) × (i < count d)) Ours asked
+  name-means =
+      meant-then _ (meant-map (λ g. g) (λ c p. inl) (checks-mean d)) λ g.
+      by-rows _ Ours ((count d ≤? i ⇒ 31 at 0) ∷ []) ((λ h. inr (record { accepted = g; beyond = h }, refl, refl)), λ f. (g, f))
+
+  pub by-answer : (P : Answer → Type 0) → ((a e : ℕ) → Named d i a e → P (accept (a ∷ e ∷ []))) → (NoEntry d i → P (refuse 31 0))
+      → ((c p : ℕ) → Refusal d c p → P (refuse c p)) → P (nameAt d i)
   unfolding nameAt
-  stopped v = last-row (checks d) (count d ≤? i) 31 0 (turned-down asked _ _ v)
+  by-answer P is-named is-none is-refused =
+      by-meaning P _ name-means (λ g. is-named _ _ (record { accepted = g .0; is-entry = g .1; starts = refl; ends = refl }))
+      (λ c p r. ⊎-elim (is-refused c p) (λ f. rw (f .1, f .2) at (is-none (f .0))) r)
 
   -- THE THEOREMS
   pub named : (a e : ℕ) → (nameAt d i ≡ accept (a ∷ e ∷ [])) ↔ Named d i a e
   unfolding nameAt
-  named a e =
-      (is-named a e, λ n. rw (n .starts, n .ends) (answered _ (goes _ (all-pass d _ _ (n .accepted)) ∙ first-pass _ (n .is-entry, tt))))
+  named a e = (
+    by-answer (λ x. x ≡ accept (a ∷ e ∷ []) → Named d i a e) (λ b f n w. let a-is : b ≡ a = cc in let e-is : f ≡ e = cc in rw (a-is, e-is) at n)
+    (λ _ w. let z : _≡_ {A = ℕ} 0 1 = cc in absurd (omega arith)) (λ c p _ w. let z : _≡_ {A = ℕ} 0 1 = cc in absurd (omega arith)),
+    λ n. rw (n .starts, n .ends) (answered _ (goes _ (all-pass d _ _ (n .accepted)) ∙ first-pass _ (n .is-entry, tt))),
+  )
 
   pub no-entry : (nameAt d i ≡ refuse 31 0) ↔ NoEntry d i
   unfolding nameAt
   no-entry = (
-    λ v. ⊎-elim (λ e. absurd (omega (arith, checks-code d e))) (λ w. record { accepted = good d (w .0); beyond = w .1 }) (stopped v),
+    by-answer (λ x. x ≡ refuse 31 0 → NoEntry d i) (λ a e _ w. let z : _≡_ {A = ℕ} 0 1 = cc in absurd (omega arith)) (λ n w. n)
+    (λ c p r w. let z : c ≡ 31 = cc in absurd (omega (arith, checks-code d (is-due d r)))),
     λ n. refused _ (goes _ (all-pass d _ _ (n .accepted)) ∙ first-at 0 _ (n .beyond)),
   )
 
   pub refused-is : (c p : ℕ) → (c ≡ 31 → ⊥) → (nameAt d i ≡ refuse c p) ↔ Refusal d c p
   unfolding nameAt
-  refused-is c p n =
-      (λ v. ⊎-elim (λ e. meant-stop (checks-mean d) e) (λ w. absurd (n (w .2))) (stopped v), λ r. refused _ (stops _ (is-due d r)))
+  refused-is c p n = (
+    by-answer (λ x. x ≡ refuse c p → Refusal d c p) (λ a e _ w. let z : _≡_ {A = ℕ} 0 1 = cc in absurd (omega arith))
+    (λ _ w. let z : c ≡ 31 = cc in absurd (n z)) (λ b r due w. let c-is : b ≡ c = cc in let p-is : r ≡ p = cc in rw (c-is, p-is) at due),
+    λ r. refused _ (stops _ (is-due d r)),
+  )
 
   -- where the name is said to stand, it stands, and it is a text
   pub name-there : (a e : ℕ) → Named d i a e → (part d a e ≡ name d i) × Text (name d i)

@@ -13,6 +13,7 @@ use Rattle.metadata.specs.Dictionary as dictionary
 use Rattle.metadata.proofs.Accepts as dictionary-accepts
 use Rattle.metadata.proofs.Means as dictionary-means
 use Rattle.metadata.proofs.Refuses as dictionary-refuses
+use Rattle.metadata.proofs.Fits as dictionary-fits
 use Rattle.object.specs.Object.{count, start, end, headRules, nameRules, offsetRules, checks, verdict}
 use Rattle.object.specs.Meaning.{Counted, Placed, Headed, GoodName, Refusal}
 use Rattle.object.specs.Meaning.Refusal.{of-dictionary, too-long, empty, other-type, count-cut, offsets-sum, start-sum, start-short, end-sum, end-short, no-entry, not-above, past-region}
@@ -62,7 +63,7 @@ pub checks-code : (d o : List ℕ) {c p : ℕ} → checks d o ≡ stop c p → (
 unfolding checks nameRules offsetRules
 checks-code d o e =
     meant-stop
-    (meant-then _ (meant-map (λ a. a) (λ c p r. omega (arith, dictionary-refuses.checks-code d (dictionary-refuses.is-due d r))) (dictionary-means.checks-mean d)) λ _.
+    (meant-then _ (meant-map (λ a. a) (λ c p r. omega (arith, dictionary-fits.checks-code d (dictionary-refuses.is-due d r))) (dictionary-means.checks-mean d)) λ _.
     meant-then _ (rows-mean Ours (headRules o) (omega arith)) λ _.
     meant-then _ (each-means Ours (nameRules d o) (count o) (λ k q. omega arith)) λ _.
     each-means Ours (offsetRules o) (count o) (λ k q. omega arith)) e

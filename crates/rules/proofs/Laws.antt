@@ -158,14 +158,6 @@ unfolding _otherwise_
 turned-down pass n v e = let z : _≡_ {A = ℕ} 0 1 = cc in absurd (omega arith)
 turned-down (stop c p) n v e = cc
 
--- one more row after the checks: which of them stops
-pub last-row : (f : Found) (t : Test) (n q : ℕ) {c p : ℕ} → (f orElse first ((t ⇒ n at q) ∷ [])) ≡ stop c p
-    → (f ≡ stop c p) ⊎ ((f ≡ pass) × Holds t × (c ≡ n) × (p ≡ q))
-unfolding first _orElse_
-last-row pass t n q {c} {p} e =
-    by-test t (λ z. z ≡ stop c p → (pass ≡ stop c p) ⊎ ((pass ≡ pass) × Holds t × (c ≡ n) × (p ≡ q))) (λ h e. inr (refl, h, cc, cc)) (λ h e. inl e) e
-last-row (stop b r) t n q e = inl e
-
 -- A FAMILY OF TABLES, ENTRY BY ENTRY
 
 pub first-append : (a b : List Rule) → first (a ++ b) ≡ (first a orElse first b)
