@@ -1,3 +1,4 @@
 pub mod Strip
 pub mod Promises
+pub mod Host
 pub mod Worked

@@ -16,7 +16,8 @@ use Rattle.object.specs.Object.{count, start, end}
 use Rattle.object.specs.Meaning.{Refusal}
 use Rattle.object.proofs.Means.{checks-mean}
 use Rattle.object.proofs.Accepts.{all-pass}
-use Rattle.object.proofs.Refuses.{is-due, checks-code}
+use Rattle.object.proofs.Refuses.{is-due}
+use Rattle.object.proofs.Fits.{checks-code}
 use Rattle.listing.specs.Words.{listChecks, listed}
 use Rattle.listing.specs.Meaning.{Listed, NoRoom}
 

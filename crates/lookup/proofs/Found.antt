@@ -17,7 +17,8 @@ use Rattle.object.specs.Meaning.{Layer, Refusal}
 use Rattle.object.proofs.Laws.{names-rise, end-is}
 use Rattle.object.proofs.Means.{checks-mean}
 use Rattle.object.proofs.Accepts.{all-pass}
-use Rattle.object.proofs.Refuses.{is-due, checks-code}
+use Rattle.object.proofs.Refuses.{is-due}
+use Rattle.object.proofs.Fits.{checks-code}
 use Rattle.lookup.specs.ByName.{absent, found as foundFor, lookup, startOf, endOf}
 use Rattle.lookup.specs.Meaning.{Found, Absent}
 

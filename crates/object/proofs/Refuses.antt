@@ -3,18 +3,16 @@
 use mathlib.Core.Path.{_≡_, refl, _∙_}
 use mathlib.Core.Logic.{_↔_}
 use mathlib.Core.List.{List, [], _∷_}
-use Prim.Native.Nat.{ℕ, _≤_, _<_}
+use Prim.Native.Nat.{ℕ, _<_}
 use native.Mathlib.Omega.{arith}
 use Rattle.rules.specs.Rules.{refuse, first}
 use Rattle.rules.specs.Rules.Found.{pass, stop}
-use Rattle.rules.proofs.Laws.{_&_, first-at, stops, goes, turned-down, refused, each-pass, each-stop, meant-then, meant-map, meant-stop, rows-mean, each-means}
+use Rattle.rules.proofs.Laws.{_&_, first-at, stops, goes, turned-down, refused, each-pass, each-stop, meant-stop}
 use Rattle.names.proofs.Laws.{not-below}
 use Rattle.metadata.specs.Dictionary as dictionary
 use Rattle.metadata.proofs.Accepts as dictionary-accepts
-use Rattle.metadata.proofs.Means as dictionary-means
 use Rattle.metadata.proofs.Refuses as dictionary-refuses
-use Rattle.metadata.proofs.Fits as dictionary-fits
-use Rattle.object.specs.Object.{count, start, end, headRules, nameRules, offsetRules, checks, verdict}
+use Rattle.object.specs.Object.{count, start, end, nameRules, offsetRules, checks, verdict}
 use Rattle.object.specs.Meaning.{Counted, Placed, Headed, GoodName, Refusal}
 use Rattle.object.specs.Meaning.Refusal.{of-dictionary, too-long, empty, other-type, count-cut, offsets-sum, start-sum, start-short, end-sum, end-short, no-entry, not-above, past-region}
 use Rattle.object.proofs.Laws.{by-dictionary, by-head, by-names}
@@ -54,19 +52,6 @@ module _ (d o : List ℕ) where
       (each-pass (nameRules d o) (count o) (λ j r. good-passed d o j (m .names j r)))
       ∙ goes _ refl
       ∙ each-stop (offsetRules o) k (count o) (each-pass (offsetRules o) k (λ j r. inside-passed d o j (g j r))) (first-at 0 (offsetRules o k) n) q
-
--- the layer's numbers are the dictionary's, 10 to 18, and 20 to 27, so none is taken for another answer's
-abbrev Ours : ℕ → ℕ → Type 0
-Ours c p = (10 ≤ c) × (c < 28)
-
-pub checks-code : (d o : List ℕ) {c p : ℕ} → checks d o ≡ stop c p → (10 ≤ c) × (c < 28)
-unfolding checks nameRules offsetRules
-checks-code d o e =
-    meant-stop
-    (meant-then _ (meant-map (λ a. a) (λ c p r. omega (arith, dictionary-fits.checks-code d (dictionary-refuses.is-due d r))) (dictionary-means.checks-mean d)) λ _.
-    meant-then _ (rows-mean Ours (headRules o) (omega arith)) λ _.
-    meant-then _ (each-means Ours (nameRules d o) (count o) (λ k q. omega arith)) λ _.
-    each-means Ours (offsetRules o) (count o) (λ k q. omega arith)) e
 
 -- THE THEOREM
 pub refuses : (d o : List ℕ) (c p : ℕ) → (verdict d o ≡ refuse c p) ↔ Refusal d o c p

@@ -1,0 +1,60 @@
+-- What a host learns from the five numbers of a strip, and from the code that a call returned. proofs/Tells.antt shows it of every answer that
+-- meets the call's promise. Assumes nothing.
+use mathlib.Core.Path.{_≡_}
+use mathlib.Core.Logic.{_↔_}
+use mathlib.Core.List.{List, _++_}
+use Prim.Native.Nat.{ℕ, _*_, _≤_, _<_}
+use lib.ListN.{length, drop}
+use Rattle.width.specs.Width.{le}
+use Rattle.metadata.specs.Dictionary.{emptyBytes}
+use Rattle.metadata.specs.Meaning as dictionary
+use Rattle.object.specs.Meaning.{Layer, Refusal}
+use Rattle.lookup.specs.Meaning.{Found, Absent}
+use Rattle.listing.specs.Words.{rows}
+use Rattle.listing.specs.Meaning.{Listed, NoRoom}
+
+-- WHAT CODE, NUMBER, START, END AND PLACE SAY, call by call
+
+pub data DictionarySays (d : List ℕ) : ℕ → ℕ → ℕ → ℕ → ℕ → Type 0 where
+  accepted : {n e : ℕ} → dictionary.Dictionary d n e → DictionarySays d 0 n 0 e 0
+  refused : {c p : ℕ} → 10 ≤ c → c < 19 → dictionary.Refusal d c p → DictionarySays d c 0 0 0 p
+
+pub data NameSays (d : List ℕ) (i : ℕ) : ℕ → ℕ → ℕ → ℕ → ℕ → Type 0 where
+  named : {a e : ℕ} → dictionary.Named d i a e → NameSays d i 0 0 a e 0
+  no-entry : dictionary.NoEntry d i → NameSays d i 31 0 0 0 0
+  refused : {c p : ℕ} → 10 ≤ c → c < 19 → dictionary.Refusal d c p → NameSays d i c 0 0 0 p
+
+pub data LayerSays (d o : List ℕ) : ℕ → ℕ → ℕ → ℕ → ℕ → Type 0 where
+  accepted : {n v e : ℕ} → Layer d o n v e → LayerSays d o 0 n v e 0
+  refused : {c p : ℕ} → 10 ≤ c → c < 28 → Refusal d o c p → LayerSays d o c 0 0 0 p
+
+pub data LookupSays (d o q : List ℕ) : ℕ → ℕ → ℕ → ℕ → ℕ → Type 0 where
+  found : {k a e : ℕ} → Found d o q k a e → LookupSays d o q 0 k a e 0
+  absent : Absent d o q → LookupSays d o q 1 0 0 0 0
+  refused : {c p : ℕ} → 10 ≤ c → c < 28 → Refusal d o c p → LookupSays d o q c 0 0 0 p
+
+pub data ListSays (d o words : List ℕ) : ℕ → ℕ → ℕ → ℕ → ℕ → Type 0 where
+  listed : {n v e : ℕ} → Listed d o words n v e → ListSays d o words 0 n v e 0
+  no-room : NoRoom d o words → ListSays d o words 41 0 0 0 0
+  refused : {c p : ℕ} → 10 ≤ c → c < 28 → Refusal d o c p → ListSays d o words c 0 0 0 p
+
+-- WHAT A CALL TELLS
+
+-- word k of a strip, as the host reads it
+abbrev pub word : List ℕ → ℕ → ℕ
+word strip k = le 4 (drop (4 * k) strip)
+
+-- 40 was returned exactly where the strip is short; with any other code the strip's words, the code first, say what is so
+pub record Tells (Says : ℕ → ℕ → ℕ → ℕ → ℕ → Type 0) (strip : List ℕ) (code : ℕ) (after : List ℕ) : Type 0 where
+  pub no-strip : (code ≡ 40) ↔ (length strip < 20)
+  pub says : (code ≡ 40 → ⊥) → (word after 0 ≡ code) × Says code (word after 1) (word after 2) (word after 3) (word after 4)
+
+-- the words lent to a listing are filled with 0, and as they were with any other code
+pub record Fills (o words : List ℕ) (code : ℕ) (after wordsAfter : List ℕ) : Type 0 where
+  pub filled : code ≡ 0 → wordsAfter ≡ rows o (word after 1) ++ drop (3 * word after 1) words
+  pub kept : (code ≡ 0 → ⊥) → wordsAfter ≡ words
+
+-- the empty dictionary's code and room
+pub record EmptyTells (room : List ℕ) (code : ℕ) (after : List ℕ) : Type 0 where
+  pub written : (code ≡ 0) ↔ ((3 ≤ length room) × (after ≡ emptyBytes ++ drop 3 room))
+  pub no-room : (code ≡ 42) ↔ ((length room < 3) × (after ≡ room))
