@@ -31,7 +31,7 @@ accept values = gives 0 values 0
 abbrev pub codeOf : Answer → ℕ
 codeOf (gives code values place) = code
 
--- TESTS, as data: what a test says where it holds, what it says where it fails, and which of the two is so.
+-- TESTS, as data: what a test says where it holds (true), what it says where it fails (false), and which of the two is so.
 
 pub data Test : Type 0 where
   _<?_ : ℕ → ℕ → Test
@@ -42,7 +42,7 @@ pub data Test : Type 0 where
   _and_ : Test → Test → Test
   _or_ : Test → Test → Test
 
--- what is so of a test that was answered by a bool
+-- what is so of a test that was answered by a bool; of two tests one holds: where the first fails, the second holds
 abbrev pub Says : Bool → Test → Type 0
 Says true (a <? b) = a < b
 Says false (a <? b) = b ≤ a

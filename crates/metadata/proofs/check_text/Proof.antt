@@ -1,7 +1,8 @@
 -- `metadata::check_text` meets its contract: the one row of its table. Assumes nothing.
-use mathlib.Core.Path.{sym}
+use mathlib.Core.Path.{sym, ap, _∙_}
 use native.Mathlib.Omega.{arith}
 use borrow.Author.Needs.{needs}
+use Rattle.rules.specs.Rules.Found.{stop}
 use Rattle.rules.proofs.Laws.{first-at, first-pass}
 use Rattle.metadata.proofs.check_text.Statement.{statement}
 use Rattle.metadata.proofs.check_text.Tie as tie
@@ -11,5 +12,5 @@ check-text-spec =
     tie.close
     (tie.spec
     (λ c κs. search needs)  -- valid-len-requires
-    (λ c. rw (c .before .valid-len .ensures) (sym (first-at 0 _ (omega arith))))  -- returns
+    (λ c. ap (stop 16) (c .before .valid-len .ensures) ∙ sym (first-at 0 _ (omega arith)))  -- returns
     (λ c. sym (first-pass _ (omega arith))))  -- returns-2
