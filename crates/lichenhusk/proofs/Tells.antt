@@ -1,26 +1,32 @@
 -- What a host learns from each call, whatever code was returned (specs/Host.antt); and no word of any answer is too large for its four bytes.
 -- Assumes nothing.
-use mathlib.Core.Path.{_≡_}
-use mathlib.Core.List.{List, [], _∷_}
-use Prim.Native.Nat.{ℕ}
+use mathlib.Core.Path.{_≡_, refl, ap, _∙_}
+use mathlib.Core.List.{List, _++_}
+use Prim.Native.Nat.{ℕ, _*_, _<_}
+use native.Mathlib.Decide.{decLt}
 use native.Mathlib.Omega.{arith}
+use borrow.Author.Tests.{lt-ltb, le-ltb}
+use lib.ListN.{length, drop}
+use Rattle.rules.specs.Rules.{codeOf}
 use Rattle.rules.proofs.Laws.{by-meaning}
 use Rattle.metadata.specs.Dictionary as dictionary
 use Rattle.metadata.proofs.Means as dictionary-means
 use Rattle.metadata.proofs.Refuses as dictionary-refuses
 use Rattle.metadata.proofs.Names as dictionary-names
 use Rattle.metadata.proofs.Fits as dictionary-fits
+use Rattle.metadata.proofs.Says.{too-small, enough}
 use Rattle.object.specs.Object as object
 use Rattle.object.proofs.Means.{checks-mean}
 use Rattle.object.proofs.Refuses.{is-due}
 use Rattle.object.proofs.Fits.{checks-code, layer-small, child-small}
 use Rattle.lookup.specs.Meaning.{Found, Absent}
 use Rattle.lookup.proofs.Found as lookup
+use Rattle.listing.specs.Words.{rows, wordsAfter as filled}
 use Rattle.listing.proofs.Lists as listing
 use Rattle.words.specs.Five.{fieldWords, dictionaryWords, nameWords}
-use Rattle.lichenhusk.specs.Strip.{lookupWords, layerWords, listWords, verdictWords, nameAtWords}
-use Rattle.lichenhusk.specs.Promises.{DictionaryPromise, NamePromise, LayerPromise, LookupPromise, ListPromise}
-use Rattle.lichenhusk.specs.Host.{word, Tells, DictionarySays, NameSays, LayerSays, LookupSays, ListSays}
+use Rattle.lichenhusk.specs.Strip.{lookupWords, layerWords, listWords, verdictWords, nameAtWords, listAfter}
+use Rattle.lichenhusk.specs.Promises.{DictionaryPromise, NamePromise, LayerPromise, LookupPromise, ListPromise, EmptyPromise}
+use Rattle.lichenhusk.specs.Host.{word, Tells, DictionarySays, NameSays, LayerSays, LookupSays, ListSays, Fills, EmptyTells}
 use Rattle.lichenhusk.specs.Host.DictionarySays.{accepted, refused as dictionary-refused}
 use Rattle.lichenhusk.specs.Host.NameSays.{named, no-entry, refused as name-refused}
 use Rattle.lichenhusk.specs.Host.LayerSays.{accepted as layer-accepted, refused as layer-refused}
@@ -66,3 +72,74 @@ module _ (d o : List ℕ) where
       (λ n v e l. let s = layer-small d o (l .accepted) in (omega arith, omega arith, (λ w. omega arith), listed l))
       (λ n. (omega arith, omega arith, (λ w. omega arith), no-room n))
       (λ c p due. let s = checks-code d o (is-due d o due) in (omega arith, omega arith, (λ w. omega arith), list-refused (s .0) (s .1) due))
+
+-- THE THEOREMS: what each call tells
+module _ (strip : List ℕ) (code : ℕ) (after : List ℕ) where
+  pub dictionary-tells : (d : List ℕ) → DictionaryPromise d strip code after → Tells (DictionarySays d) strip code after
+  dictionary-tells d l = tells _ strip _ code after l (dictionary-said d)
+
+  pub name-tells : (d : List ℕ) (i : ℕ) → NamePromise d i strip code after → Tells (NameSays d i) strip code after
+  name-tells d i l = tells _ strip _ code after l (name-said d i)
+
+  module _ (d o : List ℕ) where
+    pub layer-tells : LayerPromise d o strip code after → Tells (LayerSays d o) strip code after
+    layer-tells l = tells _ strip _ code after l (layer-said d o)
+
+    module _ (q : List ℕ) (promised : LookupPromise d o q strip code after) where
+      pub lookup-tells : Tells (LookupSays d o q) strip code after
+      lookup-tells = tells _ strip _ code after promised (lookup-said d o q)
+
+      -- it returned 0: the strip's words are a field of that name, with its start and end
+      pub returned-found : code ≡ 0 → Found d o q (word after 1) (word after 2) (word after 3)
+      returned-found z = go (lookup-tells .says (λ f. omega arith) .1) z
+        where
+          go : {c n s e p : ℕ} → LookupSays d o q c n s e p → c ≡ 0 → Found d o q n s e
+          go (found f) z = f
+          go (absent a) z = absurd (omega arith)
+          go (lookup-refused b t r) z = absurd (omega arith)
+
+      -- it returned 1: there is none
+      pub returned-absent : code ≡ 1 → Absent d o q
+      returned-absent z = go (lookup-tells .says (λ f. omega arith) .1) z
+        where
+          go : {c n s e p : ℕ} → LookupSays d o q c n s e p → c ≡ 1 → Absent d o q
+          go (found f) z = absurd (omega arith)
+          go (absent a) z = a
+          go (lookup-refused b t r) z = absurd (omega arith)
+
+    module _ (w wordsAfter : List ℕ) (promised : ListPromise d o w strip code after wordsAfter) where
+      pub list-tells : Tells (ListSays d o w) strip code after
+      list-tells = tells _ strip _ code after (promised .strip-left) (list-said d o w)
+
+      -- and what it filled
+      pub list-fills : Fills o w code after wordsAfter
+      unfolding listAfter
+      list-fills = go (decLt (length strip) 20)
+        where
+          by-case : {c n s e p : ℕ} → ListSays d o w c n s e p → wordsAfter ≡ filled d o w
+              → (c ≡ 0 → wordsAfter ≡ rows o n ++ drop (3 * n) w) × ((c ≡ 0 → ⊥) → wordsAfter ≡ w)
+          by-case (listed l) q = (λ _. q ∙ listing.words-listed d o w _ _ _ l, λ m. absurd (m refl))
+          by-case (no-room r) q = (λ z. absurd (omega arith), λ _. q ∙ listing.words-no-room d o w r)
+          by-case (list-refused b t r) q = (λ z. absurd (omega arith), λ _. q ∙ listing.words-refused d o w r)
+
+          go : Dec (length strip < 20) → Fills o w code after wordsAfter
+          go (yes h) =
+              let left : wordsAfter ≡ w = promised .words-left ∙ rw (lt-ltb (length strip) 20 h) in
+              record { filled = λ z. absurd (omega (arith, list-tells .no-strip .1 h)); kept = λ _. left }
+          go (no h) =
+              let left : wordsAfter ≡ filled d o w = promised .words-left ∙ rw (le-ltb (length strip) 20 (omega arith)) in
+              let w = by-case (list-tells .says (λ f. h (list-tells .no-strip .0 f)) .1) left in record { filled = w .0; kept = w .1 }
+
+-- the empty dictionary
+pub empty-tells : (room : List ℕ) (code : ℕ) (after : List ℕ) → EmptyPromise room code after → EmptyTells room code after
+empty-tells room code after p = go (decLt (length room) 3)
+  where
+    go : Dec (length room < 3) → EmptyTells room code after
+    go (yes h) =
+        let w = too-small room h in
+        let c : code ≡ 42 = p .returns ∙ ap codeOf (w .0) in
+        record { written = (λ z. absurd (omega arith), λ k. absurd (omega (arith, k .0))); no-room = (λ _. (h, p .leaves ∙ w .1), λ _. c) }
+    go (no h) =
+        let w = enough room (omega arith) in
+        let c : code ≡ 0 = p .returns ∙ ap codeOf (w .0) in
+        record { written = (λ _. (omega arith, p .leaves ∙ w .1), λ _. c); no-room = (λ z. absurd (omega arith), λ k. absurd (h (k .0))) }

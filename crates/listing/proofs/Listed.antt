@@ -1,22 +1,21 @@
--- The words of a listing: three a field in field order, its id, its start and its span; the words after these stay, and a refusal leaves all.
+-- The words of a listing: three a field in field order, its id, its start and its span.
 -- The span runs to the least of the n + 1 offsets above the field's own, and is 0 if none is. Assumes nothing.
 use mathlib.Core.Path.{_≡_, refl, _∙_}
 use mathlib.Core.Logic.{_⊎_}
 use mathlib.Core.Logic._⊎_.{inl, inr}
 use mathlib.Core.Bool.{Bool, true, false, cond, _&&_, _||_}
-use mathlib.Core.List.{List, [], _∷_, _++_}
+use mathlib.Core.List.{List, _++_}
 use Prim.Native.Nat.{ℕ, zero, suc, _+_, _-_, _*_, _≤_, _<_}
 use native.Mathlib.Decide.{decLt}
 use native.Mathlib.Nat.{add-zero}
 use native.Mathlib.Omega.{arith}
 use borrow.Author.Tests.{ltb-true, ltb-false, leb-true, leb-false}
 use lib.Dec.{ltb, leb}
-use lib.ListN.{take, drop, getD, List·getD-append}
-use lib.Seq.{getD-append-add, take-at, drop-at}
-use Rattle.rules.specs.Rules.{accept, refuse}
-use Rattle.rules.proofs.Laws.{let-through, turned-down, and-last}
-use Rattle.object.specs.Object.{count, id, offset, start, end, layer}
-use Rattle.listing.specs.Words.{leastAbove, span, row, rows, listChecks, listed, wordsAfter}
+use lib.ListN.{getD, List·getD-append}
+use lib.Seq.{getD-append-add}
+use Rattle.rules.proofs.Laws.{and-last}
+use Rattle.object.specs.Object.{count, id, offset, start}
+use Rattle.listing.specs.Words.{leastAbove, span, row, rows}
 use Rattle.listing.proofs.Rows.{rows-length}
 
 -- THE WORDS OF A FIELD
@@ -45,23 +44,6 @@ module _ (o : List ℕ) (n k : ℕ) (p : k < n) where
   pub span-word : getD (rows o n) (3 * k + 2) 0 ≡ span o k
   unfolding row
   span-word = word o n k 2 p (omega arith)
-
--- ALL WORDS
-
-module _ (d o w : List ℕ) where
-  -- accepted: the words of the n fields come first, and those after them stay
-  pub words-listed : (n v e : ℕ) → listed d o w ≡ accept (n ∷ v ∷ e ∷ []) → (take (3 * n) (wordsAfter d o w) ≡ rows o n) × (drop (3 * n) (wordsAfter d o w) ≡ drop (3 * n) w)
-  unfolding listed wordsAfter
-  words-listed n v e a =
-      let through = let-through (listChecks d o w) (layer o) a in
-      let n-is : n ≡ count o = cc in
-      rw (n-is, through .0)
-      (take-at (rows o (count o)) _ (3 * count o) (rows-length o (count o)), drop-at (rows o (count o)) _ (3 * count o) (rows-length o (count o)))
-
-  -- refused: all stay
-  pub words-kept : (c p : ℕ) → listed d o w ≡ refuse c p → wordsAfter d o w ≡ w
-  unfolding listed wordsAfter
-  words-kept c p a = rw (turned-down (listChecks d o w) (count o) (start o ∷ end o ∷ []) a)
 
 -- WHAT THE SPAN MEANS
 

@@ -3,10 +3,10 @@
 use mathlib.Core.Path.{_≡_, refl, _∙_}
 use mathlib.Core.Logic.{_↔_, _⊎_, ⊎-elim}
 use mathlib.Core.Logic._⊎_.{inl, inr}
-use mathlib.Core.List.{List, [], _∷_}
+use mathlib.Core.List.{List, [], _∷_, _++_}
 use Prim.Native.Nat.{ℕ, _*_}
 use native.Mathlib.Omega.{arith}
-use lib.ListN.{length}
+use lib.ListN.{length, drop}
 use Rattle.rules.specs.Rules.{Answer, accept, refuse}
 use Rattle.rules.specs.Rules.Test.{_<?_}
 use Rattle.rules.specs.Rules.Rule.{_⇒_at_}
@@ -18,7 +18,7 @@ use Rattle.object.proofs.Means.{checks-mean}
 use Rattle.object.proofs.Accepts.{all-pass}
 use Rattle.object.proofs.Refuses.{is-due}
 use Rattle.object.proofs.Fits.{checks-code}
-use Rattle.listing.specs.Words.{listChecks, listed}
+use Rattle.listing.specs.Words.{rows, listChecks, listed, wordsAfter}
 use Rattle.listing.specs.Meaning.{Listed, NoRoom}
 
 module _ (d o w : List ℕ) where
@@ -50,6 +50,19 @@ module _ (d o w : List ℕ) where
   pub refusal-stops : {c p : ℕ} → Refusal d o c p → listChecks d o w ≡ stop c p
   unfolding listChecks
   refusal-stops r = stops _ (is-due d o r)
+
+  -- THE WORDS OF EACH ANSWER
+  pub words-listed : (n v e : ℕ) → Listed d o w n v e → wordsAfter d o w ≡ rows o n ++ drop (3 * n) w
+  unfolding wordsAfter
+  words-listed n v e l = rw (all-listed n v e l, l .accepted .counts)
+
+  pub words-no-room : NoRoom d o w → wordsAfter d o w ≡ w
+  unfolding wordsAfter
+  words-no-room r = rw (no-room-stops r)
+
+  pub words-refused : {c p : ℕ} → Refusal d o c p → wordsAfter d o w ≡ w
+  unfolding wordsAfter
+  words-refused r = rw (refusal-stops r)
 
   -- THE THEOREMS
   pub listed-is : (n v e : ℕ) → (listed d o w ≡ accept (n ∷ v ∷ e ∷ [])) ↔ Listed d o w n v e

@@ -13,10 +13,10 @@ use Rattle.object.specs.Answers.{refusalNumber, refusalPlace}
 use Rattle.object.specs.Meaning.{Refusal as Due}
 use Rattle.object.proofs.Pinned.{refusalBy, refusal-back}
 use Rattle.listing.specs.declared.Listing.the-variants as listing
-use Rattle.listing.specs.Words.{rows, wordsAfter}
+use Rattle.listing.specs.Words.{rows}
 use Rattle.listing.specs.Meaning.{Listed, NoRoom}
 use Rattle.listing.specs.Promises.{ListPromise}
-use Rattle.listing.proofs.Lists.{all-listed, no-room-stops, refusal-stops, listed-is, no-room-is, refused-is}
+use Rattle.listing.proofs.Lists.{words-listed, words-no-room, words-refused, listed-is, no-room-is, refused-is}
 
 -- no case of a refusal has the number 41
 not-41 : (r : Refusal) → refusalNumber r ≡ 41 → ⊥
@@ -25,23 +25,22 @@ not-41 r e = false-true (rw e at (refusal-back (λ _. true) false r))
 
 module _ (d o w after : List ℕ) where
   pub list-listed : (n v e : ℕ) → ListPromise d o w (listing.Listed n v e) after ↔ (Listed d o w n v e × (after ≡ rows o n ++ drop (3 * n) w))
-  unfolding wordsAfter
-  list-listed n v e = (
-    λ p. let l = listed-is d o w n v e .0 (sym (p .answers)) in (l, p .leaves ∙ rw (all-listed d o w n v e l, l .accepted .counts)),
-    λ p. let l = p .0 in record { answers = sym (listed-is d o w n v e .1 l); leaves = p .1 ∙ rw (all-listed d o w n v e l, l .accepted .counts) },
-  )
+  list-listed n v e =
+      let is = listed-is d o w n v e in (
+        λ p. let l = is .0 (sym (p .answers)) in (l, p .leaves ∙ words-listed d o w n v e l),
+        λ p. record { answers = sym (is .1 (p .0)); leaves = p .1 ∙ sym (words-listed d o w n v e (p .0)) },
+      )
 
   pub list-no-room : ListPromise d o w listing.NoRoom after ↔ (NoRoom d o w × (after ≡ w))
-  unfolding wordsAfter
-  list-no-room = (
-    λ p. let r = no-room-is d o w .0 (sym (p .answers)) in (r, p .leaves ∙ rw (no-room-stops d o w r)),
-    λ p. record { answers = sym (no-room-is d o w .1 (p .0)); leaves = p .1 ∙ rw (no-room-stops d o w (p .0)) },
-  )
+  list-no-room =
+      let is = no-room-is d o w in (
+        λ p. let r = is .0 (sym (p .answers)) in (r, p .leaves ∙ words-no-room d o w r),
+        λ p. record { answers = sym (is .1 (p .0)); leaves = p .1 ∙ sym (words-no-room d o w (p .0)) },
+      )
 
   pub list-refused : (r : Refusal) → ListPromise d o w (listing.Refused r) after ↔ (Due d o (refusalNumber r) (refusalPlace r) × (after ≡ w))
-  unfolding wordsAfter
   list-refused r =
       let is = refused-is d o w (refusalNumber r) (refusalPlace r) (not-41 r) in (
-        λ p. let due = is .0 (sym (p .answers)) in (due, p .leaves ∙ rw (refusal-stops d o w due)),
-        λ p. record { answers = sym (is .1 (p .0)); leaves = p .1 ∙ rw (refusal-stops d o w (p .0)) },
+        λ p. let due = is .0 (sym (p .answers)) in (due, p .leaves ∙ words-refused d o w due),
+        λ p. record { answers = sym (is .1 (p .0)); leaves = p .1 ∙ sym (words-refused d o w (p .0)) },
       )
