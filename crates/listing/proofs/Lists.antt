@@ -69,8 +69,8 @@ module _ (d o w : List ℕ) where
   unfolding listed
   listed-is n v e = (
     by-answer (λ x. x ≡ accept (n ∷ v ∷ e ∷ []) → Listed d o w n v e)
-    (λ m s t l q. let n-is : m ≡ n = cc in let v-is : s ≡ v = cc in let e-is : t ≡ e = cc in rw (n-is, v-is, e-is) at l)
-    (λ _ q. let z : _≡_ {A = ℕ} 0 1 = cc in absurd (omega arith)) (λ c p _ q. let z : _≡_ {A = ℕ} 0 1 = cc in absurd (omega arith)),
+        (λ m s t l q. let n-is : m ≡ n = cc in let v-is : s ≡ v = cc in let e-is : t ≡ e = cc in rw (n-is, v-is, e-is) at l)
+        (λ _ q. let z : _≡_ {A = ℕ} 0 1 = cc in absurd (omega arith)) (λ c p _ q. let z : _≡_ {A = ℕ} 0 1 = cc in absurd (omega arith)),
     λ l. let a = l .accepted in rw (a .counts, a .starts, a .ends) (answered _ (all-listed n v e l)),
   )
 
@@ -78,7 +78,7 @@ module _ (d o w : List ℕ) where
   unfolding listed
   no-room-is = (
     by-answer (λ x. x ≡ refuse 41 0 → NoRoom d o w) (λ n v e _ q. let z : _≡_ {A = ℕ} 0 1 = cc in absurd (omega arith)) (λ r q. r)
-    (λ c p r q. let z : c ≡ 41 = cc in absurd (omega (arith, checks-code d o (is-due d o r)))),
+        (λ c p r q. let z : c ≡ 41 = cc in absurd (omega (arith, checks-code d o (is-due d o r)))),
     λ r. refused _ (no-room-stops r),
   )
 
@@ -86,6 +86,6 @@ module _ (d o w : List ℕ) where
   unfolding listed
   refused-is c p n = (
     by-answer (λ x. x ≡ refuse c p → Refusal d o c p) (λ m v e _ q. let z : _≡_ {A = ℕ} 0 1 = cc in absurd (omega arith))
-    (λ _ q. let z : c ≡ 41 = cc in absurd (n z)) (λ b r due q. let c-is : b ≡ c = cc in let p-is : r ≡ p = cc in rw (c-is, p-is) at due),
+        (λ _ q. let z : c ≡ 41 = cc in absurd (n z)) (λ b r due q. let c-is : b ≡ c = cc in let p-is : r ≡ p = cc in rw (c-is, p-is) at due),
     λ r. refused _ (refusal-stops r),
   )

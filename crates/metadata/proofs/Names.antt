@@ -76,7 +76,7 @@ module _ (d : List ℕ) (i : ℕ) where
   unfolding nameAt
   named a e = (
     by-answer (λ x. x ≡ accept (a ∷ e ∷ []) → Named d i a e) (λ b f n w. let a-is : b ≡ a = cc in let e-is : f ≡ e = cc in rw (a-is, e-is) at n)
-    (λ _ w. let z : _≡_ {A = ℕ} 0 1 = cc in absurd (omega arith)) (λ c p _ w. let z : _≡_ {A = ℕ} 0 1 = cc in absurd (omega arith)),
+        (λ _ w. let z : _≡_ {A = ℕ} 0 1 = cc in absurd (omega arith)) (λ c p _ w. let z : _≡_ {A = ℕ} 0 1 = cc in absurd (omega arith)),
     λ n. rw (n .starts, n .ends) (answered _ (goes _ (all-pass d _ _ (n .accepted)) ∙ first-pass _ (n .is-entry, tt))),
   )
 
@@ -84,7 +84,7 @@ module _ (d : List ℕ) (i : ℕ) where
   unfolding nameAt
   no-entry = (
     by-answer (λ x. x ≡ refuse 31 0 → NoEntry d i) (λ a e _ w. let z : _≡_ {A = ℕ} 0 1 = cc in absurd (omega arith)) (λ n w. n)
-    (λ c p r w. let z : c ≡ 31 = cc in absurd (omega (arith, checks-code d (is-due d r)))),
+        (λ c p r w. let z : c ≡ 31 = cc in absurd (omega (arith, checks-code d (is-due d r)))),
     λ n. refused _ (goes _ (all-pass d _ _ (n .accepted)) ∙ first-at 0 _ (n .beyond)),
   )
 
@@ -92,7 +92,7 @@ module _ (d : List ℕ) (i : ℕ) where
   unfolding nameAt
   refused-is c p n = (
     by-answer (λ x. x ≡ refuse c p → Refusal d c p) (λ a e _ w. let z : _≡_ {A = ℕ} 0 1 = cc in absurd (omega arith))
-    (λ _ w. let z : c ≡ 31 = cc in absurd (n z)) (λ b r due w. let c-is : b ≡ c = cc in let p-is : r ≡ p = cc in rw (c-is, p-is) at due),
+        (λ _ w. let z : c ≡ 31 = cc in absurd (n z)) (λ b r due w. let c-is : b ≡ c = cc in let p-is : r ≡ p = cc in rw (c-is, p-is) at due),
     λ r. refused _ (stops _ (is-due d r)),
   )
 

@@ -1,0 +1,86 @@
+-- None of document 01's six wrong versions meets its promise, by the worked cases: a function that meets it and is one of them cannot be.
+-- Assumes nothing.
+use mathlib.Core.Path.{_≡_, ap}
+use mathlib.Core.List.{List, [], _∷_}
+use Prim.Native.Nat.{ℕ}
+use native.Mathlib.Omega.{arith}
+use denote.Ref.{RefT}
+use lib.ListN.{getD, replicate}
+use Rattle.rules.specs.Rules.{accept}
+use Rattle.metadata.specs.declared.Refusal.the-variants.{Short}
+use Rattle.metadata.specs.declared.Verdict.{Verdict}
+use Rattle.metadata.specs.declared.Verdict.the-variants as verdict
+use Rattle.metadata.specs.Promises.{CheckPromise}
+use Rattle.metadata.proofs.Pinned.{check-pinned}
+use Rattle.lookup.specs.declared.Lookup.{Lookup}
+use Rattle.lookup.specs.declared.Lookup.the-variants as lookup
+use Rattle.lookup.specs.ByName as by-name
+use Rattle.lookup.specs.Promises.{GetPromise, ChildPromise}
+use Rattle.listing.specs.declared.Listing.{Listing}
+use Rattle.listing.specs.Promises.{ListPromise}
+use Rattle.lichenhusk.specs.Worked.{Told, D, P, flow, roll}
+use Rattle.lichenhusk.specs.Worked.Told.{leaves}
+use Rattle.lichenhusk.proofs.Worked.{worked}
+
+-- row k of the table of worked cases, on both sides
+abbrev at : ℕ → List Told → Told
+at k table = getD table k (leaves [])
+
+-- two dictionaries of one first byte: of no entries, and of two
+abbrev none : List ℕ
+none = 0x01 ∷ 0x00 ∷ 0x00 ∷ []
+
+abbrev two : List ℕ
+two = 0x01 ∷ 0x02 ∷ 0x00 ∷ 0x01 ∷ 0x02 ∷ 0x61 ∷ 0x61 ∷ []
+
+module _ (check : List ℕ → Verdict) (meets : (d : List ℕ) → CheckPromise d (check d)) where
+  -- one that always says 13
+  pub not-always-short : ((d : List ℕ) → check d ≡ verdict.Refused Short) → ⊥
+  not-always-short wrong =
+      let is = ap (at 0) worked in
+      let says = rw (wrong none) at (meets none) in
+      let z : _≡_ {A = ℕ} 0 13 = cc in omega arith
+
+  -- one that reports an entry count from the header byte alone
+  pub not-by-first-byte : (count : ℕ → ℕ) → ((d : List ℕ) (n e : ℕ) → check d ≡ verdict.Accepted n e → n ≡ count (getD d 0 0)) → ⊥
+  not-by-first-byte count wrong =
+      let is-none = ap (at 0) worked in
+      let is-two = ap (at 6) worked in
+      let none-is : check none ≡ verdict.Accepted 0 3 = check-pinned none _ _ (meets none) (cc) in
+      let two-is : check two ≡ verdict.Accepted 2 7 = check-pinned two _ _ (meets two) (cc) in
+      omega (arith, wrong none 0 3 none-is, wrong two 2 7 two-is)
+
+module _ (get : List ℕ → List ℕ → List ℕ → Lookup) (meets : (d o q : List ℕ) → GetPromise d o q (get d o q)) where
+  -- one that says absent to every name
+  pub not-always-absent : ((d o q : List ℕ) → get d o q ≡ lookup.Absent) → ⊥
+  not-always-absent wrong =
+      let is = ap (at 7) worked in
+      let says = rw (wrong D P flow) at (meets D P flow) in
+      let z : _≡_ {A = ℕ} 0 1 = cc in omega arith
+
+  -- one that finds field 0 always, wherever it says the child is
+  pub not-field-zero : (start end : List ℕ → List ℕ → List ℕ → ℕ) → ((d o q : List ℕ) → get d o q ≡ lookup.Found 0 (start d o q) (end d o q)) → ⊥
+  not-field-zero start end wrong =
+      let is = ap (at 8) worked in
+      let says = rw (wrong D P roll) at (meets D P roll) in
+      let z : _≡_ {A = ℕ} 0 1 = cc in omega arith
+
+-- one that leaves the listing's words as lent
+pub not-as-lent : (list : List ℕ → List ℕ → List ℕ → Listing) (after : List ℕ → List ℕ → List ℕ → List ℕ)
+    → ((d o w : List ℕ) → ListPromise d o w (list d o w) (after d o w)) → ((d o w : List ℕ) → after d o w ≡ w) → ⊥
+not-as-lent list after meets wrong =
+    let lent : List ℕ = replicate 6 0 in
+    let is = ap (at 10) worked in
+    let says = rw (wrong D P lent) at (meets D P lent .leaves) in
+    let z : _≡_ {A = ℕ} 0 8 = cc in omega arith
+
+-- one that hands back the whole object as child
+pub not-the-whole : (child : List ℕ → RefT (List ℕ) → List ℕ → RefT (List ℕ))
+    → ((d : List ℕ) (object : RefT (List ℕ)) (q : List ℕ) → ChildPromise d object q (child d object q))
+    → ((d : List ℕ) (object : RefT (List ℕ)) (q : List ℕ) → child d object q .now ≡ object .now) → ⊥
+not-the-whole child meets wrong =
+    let object : RefT (List ℕ) = record { ptr = (0, 0); name = 0; now = P } in
+    let is = ap (at 7) worked in
+    let found : by-name.lookup D P flow ≡ accept (0 ∷ 8 ∷ 10 ∷ []) = cc in
+    let says = rw (wrong D object flow, found) at (meets D object flow .bytes) in
+    let z : _≡_ {A = ℕ} 2 12 = cc in omega arith
