@@ -1,12 +1,13 @@
 // Lookup by name over a checked object layer, and the child as a part of the object (object.rs: VariantObject::get).
 ghost use mathlib.Core.Path.{_≡_};
-ghost use Prim.Native.Nat.{_<_};
+ghost use Prim.Native.Nat.{_+_, _≤_, _<_};
 ghost use Rattle.names.specs.Order.{compareOf};
 ghost use Rattle.names.specs.Search.{seek};
-ghost use Rattle.object.specs.Object.{count as countOf, fieldName};
-ghost use Rattle.object.specs.Steps.{MessageOf};
+ghost use Rattle.object.specs.Object.{count as countOf, offset as offsetOf, start as regionStart, end as trimmedEnd, fieldName};
+ghost use Rattle.object.specs.Steps.{LayerOf, MessageOf};
 ghost use Rattle.lookup.specs.Promises.{GetPromise, ChildPromise};
 ghost use Rattle.lookup.specs.Steps.{soughtOf, PlaceOf};
+use object::Layer;
 use object::Message;
 use object::Opening;
 
@@ -65,6 +66,22 @@ fn find(dict: &[u8], object: &[u8], m: Message, name: &[u8]) -> Search
     Search::Nowhere
 }
 
+struct Place {
+    start: usize,
+    end: usize,
+}
+
+// Where field k's child lies: from its offset to the trimmed end, wherever the next field starts.
+fn field_place(object: &[u8], l: Layer, k: usize) -> Place
+    requires { ⌜ LayerOf (now object) l × (k < countOf (now object)) × (regionStart (now object) + offsetOf (now object) k ≤ trimmedEnd (now object)) ⌝ }
+    ensures { λ r. ⌜ (r .start ≡ regionStart (now (object .entry)) + offsetOf (now (object .entry)) k) × (r .end ≡ trimmedEnd (now (object .entry))) ⌝ }
+{
+    Place {
+        start: l.start + object::offset_at(object, l, k),
+        end: l.end,
+    }
+}
+
 // Lookup by name.
 pub fn get(dict: &[u8], object: &[u8], name: &[u8]) -> Lookup
     ensures { λ r. ⌜ GetPromise (now (dict .entry)) (now (object .entry)) (now (name .entry)) r ⌝ }
@@ -78,20 +95,16 @@ pub fn get(dict: &[u8], object: &[u8], name: &[u8]) -> Lookup
                 Search::Nowhere => Lookup::Absent,
                 Search::At(k) => {
                     let l = m.layer;
+                    let place = field_place(object, l, k);
                     Lookup::Found {
                         field: k,
-                        start: l.start + object::offset_at(object, l, k),
-                        end: l.end,
+                        start: place.start,
+                        end: place.end,
                     }
                 }
             }
         }
     }
-}
-
-struct Place {
-    start: usize,
-    end: usize,
 }
 
 // Where the child lies in the object; nothing, at its start, on absence or refusal.

@@ -41,16 +41,14 @@ get-spec =
     (λ c κs. rw (c .before .opening2 .given .1) at (c .before .before .before .open .ensures))  -- find-requires
     (λ c. search needs)  -- enum-told
     (λ c. search needs)  -- enum-known-found
-    (λ c κs. (message c .layered, omega (arith, field c)))  -- offset-at-requires
-    (λ c. let l = c .before .before in
-    let s = l .before .before .before .before .before .before .before .before .before .before .before .before in
-    let m = message l in
-    omega (arith, m .layered .passes, in-region (s .args .dict .now) (s .args .object .now) (m .passes) _ (field l), end-is (s .args .object .now)))  -- add-t13
+    (λ c κs. let a = c .before .before .before .before .before .before .before .before .before .before .before .before .args in
+    let m = message c in
+    (m .layered, field c, omega (arith, in-region (a .dict .now) (a .object .now) (m .passes) _ (field c), end-is (a .object .now))))  -- field-place-requires
     (λ c. sym (refused _ (rw (c .before .opening .given .1) at (c .before .before .before .open .ensures))))  -- returns
     (λ c. let m = rw (c .before .before .before .before .opening2 .given .1) at (c .before .before .before .before .before .before .open .ensures) in
     let o = c .before .before .before .before .before .before .before .before .before .before .args .object .now in
     sym (answered _ (m .passes) ∙ ap (found o) (sym (c .before .before .find .ensures) ∙ ap soughtOf (c .enum-told .given .1))))  -- returns-2
-    (λ c. let l = c .before .before in
-    let m = message l in
-    rw (m .layered .start-is, m .layered .end-is, c .before .offset-at .ensures .0)
-    (sym (answered _ (m .passes) ∙ ap (found (l .before .before .before .before .before .before .before .before .before .before .before .before .args .object .now)) (sought l)))))  -- returns-3
+    (λ c. let l = c .before in
+    let place = c .field-place .ensures in
+    rw (place .0, place .1)
+    (sym (answered _ (message l .passes) ∙ ap (found (l .before .before .before .before .before .before .before .before .before .before .before .before .args .object .now)) (sought l)))))  -- returns-3
