@@ -1,7 +1,7 @@
 // The listing of an object's fields into lent words.
 ghost use mathlib.Core.Path.{_≡_};
 ghost use mathlib.Core.List.{_++_};
-ghost use Prim.Native.Nat.{ℕ, _+_, _*_, _≤_, _<_};
+ghost use Prim.Native.Nat.{ℕ, _+_, _-_, _*_, _≤_, _<_};
 ghost use lib.ListN.{length, drop};
 ghost use Rattle.object.specs.Object.{count as countOf, offset as offsetOf};
 ghost use Rattle.object.specs.Meaning.{InRegion};
@@ -52,6 +52,14 @@ fn least_above(object: &[u8], l: Layer, x: usize) -> usize
     best
 }
 
+// From x to the least of the offsets above it; 0 where none is.
+fn span_above(object: &[u8], l: Layer, x: usize) -> usize
+    requires { ⌜ LayerOf (now object) l × (x < 4294967296) ⌝ }
+    ensures { λ r. ⌜ (r ≡ leastAbove (offsetOf (now (object .entry))) x (countOf (now (object .entry)) + 1) - x) × (r < 4294967296) ⌝ }
+{
+    least_above(object, l, x) - x
+}
+
 // The words of all fields: id, start, span.
 fn write_rows(object: &[u8], l: Layer, words: &mut [u32])
     requires { ⌜ LayerOf (now object) l × ((k : ℕ) → k < countOf (now object) → InRegion (now object) k) × (3 * countOf (now object) ≤ length (now words)) ⌝ }
@@ -64,7 +72,7 @@ fn write_rows(object: &[u8], l: Layer, words: &mut [u32])
         let offset = object::offset_at(object, l, k);
         words[at] = object::id_at(object, l, k) as u32;
         words[at + 1] = (l.start + offset) as u32;
-        words[at + 2] = (least_above(object, l, offset) - offset) as u32;
+        words[at + 2] = span_above(object, l, offset) as u32;
         at += 3;
         k += 1;
     }

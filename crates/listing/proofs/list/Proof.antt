@@ -38,6 +38,6 @@ list-spec =
     let room : 3 * count (a .object .now) ≤ length (a .words .now) = omega (arith, m .layered .count-is) in
     let e = goes _ (m .passes) ∙ first-pass _ (room, tt) in
     record {
-      answers = rw (m .layered .count-is, m .layered .start-is, m .layered .end-is) (sym (answered _ e));
+      answers = sym (answered _ e ∙ rw (← m .layered .count-is, ← m .layered .start-is, ← m .layered .end-is));
       leaves = c .before .before .write-rows .ensures ∙ rw e;
     }))  -- returns-3

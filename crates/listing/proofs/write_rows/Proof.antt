@@ -42,8 +42,7 @@ write-rows-spec =
     (λ c. omega arith)  -- add-words-2
     (λ c. omega arith)  -- mul-words-2
     (λ c. simp length-set (omega arith))  -- slice-write-words-2
-    (λ c κs. omega arith)  -- least-above-requires
-    (λ c. omega arith)  -- sub-words
+    (λ c κs. omega arith)  -- span-above-requires
     (λ c. omega arith)  -- cast-words-3
     (λ c. omega arith)  -- add-words-3
     (λ c. omega arith)  -- mul-words-3
@@ -54,8 +53,8 @@ write-rows-spec =
     (λ c. let l = c .before .before .before .before .before .loop in
     let s = c .before .before .before .before .before .before .before .before in
     let offset-is = c .before .before .before .offset-at .ensures .0 in
-    let span-is = rw (offset-is) at (c .least-above .ensures .0) in (
-      turn (s .args .object .now) _ (l .words) (l .k) (l .at) (l .inv .0) (l .inv .1) (c .before .before .id-at .ensures .0) (omega arith) (rw (offset-is, span-is)) (omega arith),
+    let span-is = rw (offset-is) at (c .span-above .ensures .0) in (
+      turn (s .args .object .now) _ (l .words) (l .k) (l .at) (l .inv .0) (l .inv .1) (c .before .before .id-at .ensures .0) (omega arith) span-is (omega arith),
       omega arith,
       omega arith,
       simp length-set (l .inv .3),
