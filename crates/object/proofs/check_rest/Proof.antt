@@ -1,11 +1,27 @@
 -- `object::check_rest` meets its contract: the table of names, then that of offsets. Assumes nothing.
-use mathlib.Core.Path.{sym, ap, _∙_}
+use mathlib.Core.Path.{_≡_, sym, ap, _∙_}
+use mathlib.Core.List.{List}
+use Prim.Native.Nat.{ℕ}
 use borrow.Author.Needs.{needs}
+use Rattle.rules.specs.Rules.{Found, first, each, Passed}
+use Rattle.rules.specs.Rules.Found.{pass}
 use Rattle.rules.proofs.Laws.{stops, goes}
-use Rattle.object.specs.Steps.{foundOf}
+use Rattle.metadata.specs.Dictionary as dictionary
+use Rattle.object.specs.declared.Refusal.{Refusal}
+use Rattle.object.specs.declared.Outcome.{Outcome}
+use Rattle.object.specs.declared.Outcome.the-variants as outcome
+use Rattle.object.specs.Object.{count, headRules, nameRules, offsetRules, checks}
+use Rattle.object.specs.Steps.{foundOf, stopOf}
 use Rattle.object.proofs.Laws.{by-names}
 use Rattle.object.proofs.check_rest.Statement.{statement}
 use Rattle.object.proofs.check_rest.Tie as tie
+
+module _ (d o : List ℕ) (over : dictionary.checks d ≡ pass) (header : Passed (headRules o)) where
+  stopped : {x : Outcome} {r : Refusal} → foundOf x ≡ first (each (nameRules d o) (count o)) → x ≡ outcome.Refused r → stopOf r ≡ checks d o
+  stopped e z = sym (by-names d o over header (sym e) ∙ stops _ (ap foundOf z))
+
+  passed : {x : Outcome} {f : Found} → foundOf x ≡ first (each (nameRules d o) (count o)) → x ≡ outcome.Pass → f ≡ first (each (offsetRules o) (count o)) → f ≡ checks d o
+  passed e z h = h ∙ sym (by-names d o over header (sym e) ∙ goes _ (ap foundOf z))
 
 pub check-rest-spec : {M : Type 1} → statement M
 check-rest-spec =
@@ -15,9 +31,5 @@ check-rest-spec =
     (λ c. search needs)  -- enum-known-fields
     (λ c. search needs)  -- enum-told
     (λ c κs. search needs)  -- check-offsets-requires
-    (λ c. let s = c .before .before .before .before .before .before in
-    let names = by-names _ _ (s .pre .0 .1) (s .pre .1 .passes) (sym (c .before .before .before .check-fields .ensures)) in
-    sym (names ∙ stops _ (ap foundOf (c .before .fields .given .1))))  -- returns
-    (λ c. let s = c .before .before .before .before .before .before in
-    let names = by-names _ _ (s .pre .0 .1) (s .pre .1 .passes) (sym (c .before .before .before .check-fields .ensures)) in
-    c .check-offsets .ensures ∙ sym (names ∙ goes _ (ap foundOf (c .before .enum-told .given .1)))))  -- returns-2
+    (λ c. let s = c .before .before .before .before .before .before in search (needs, stopped _ _ (s .pre .0 .1) (s .pre .1 .passes)))  -- returns
+    (λ c. let s = c .before .before .before .before .before .before in search (needs, passed _ _ (s .pre .0 .1) (s .pre .1 .passes))))  -- returns-2

@@ -1,5 +1,4 @@
 -- `object::name_not_above` meets its contract: each return is one way for the test to hold or fail. Assumes nothing.
-use mathlib.Core.Path.{sym, _∙_}
 use native.Mathlib.Omega.{arith}
 use borrow.Author.Needs.{needs}
 use Rattle.object.proofs.name_not_above.Statement.{statement}
@@ -17,5 +16,5 @@ name-not-above-spec =
     (λ c. search needs)  -- part-is-below-start-2
     (λ c. search needs)  -- part-is-below-end-2
     (λ c κs. search needs)  -- is-below-requires
-    (λ c. λ p. sym (c .before .is-below .ensures) ∙ c .if2 .taken)  -- returns-2
-    (λ c. (omega arith, sym (c .before .is-below .ensures) ∙ c .if2 .left)))  -- returns-3
+    (λ c. λ p. cc (c .before .is-below .ensures))  -- returns-2
+    (λ c. (omega arith, cc (c .before .is-below .ensures))))  -- returns-3
