@@ -1,14 +1,6 @@
 -- Bytes added to the dictionary, to the object or to both, within the limit: what a call returned and left meets its promise for the more
 -- bytes too, so that it returns and leaves the same (Pinned), unless the code was "empty" or "short". Assumes nothing.
-use mathlib.Core.Path.{_≡_, refl, sym, ap, _∙_}
-use mathlib.Core.List.{List, _++_}
-use Prim.Native.Nat.{ℕ, _≤_, _<_}
-use native.Mathlib.Decide.{decLt}
-use native.Mathlib.Omega.{arith}
-use borrow.Author.Tests.{lt-ltb, le-ltb}
-use lib.ListN.{length, getD}
-use Rattle.rules.specs.Rules.{Answer, codeOf}
-use Rattle.rules.specs.Rules.Answer.{gives}
+use Rattle.rules.proofs.Prelude.{_≡_, refl, _∙_, List, _++_, ℕ, _≤_, _<_, decLt, arith, lt-ltb, le-ltb, length, getD, Answer, codeOf, gives}
 use Rattle.metadata.specs.Limits.{limit}
 use Rattle.metadata.proofs.Appended.{appended, name-appended}
 use Rattle.object.proofs.Appended.{Settled, verdict-appended}

@@ -1,12 +1,7 @@
 -- None of document 01's six wrong versions meets its promise, by the worked cases: a function that meets it and is one of them cannot be.
 -- Assumes nothing.
-use mathlib.Core.Path.{_≡_, ap}
-use mathlib.Core.List.{List, [], _∷_}
-use Prim.Native.Nat.{ℕ}
-use native.Mathlib.Omega.{arith}
+use Rattle.rules.proofs.Prelude.{_≡_, ap, List, [], _∷_, ℕ, arith, getD, replicate, accept}
 use denote.Ref.{RefT}
-use lib.ListN.{getD, replicate}
-use Rattle.rules.specs.Rules.{accept}
 use Rattle.metadata.specs.declared.Refusal.the-variants.{Short}
 use Rattle.metadata.specs.declared.Verdict.{Verdict}
 use Rattle.metadata.specs.declared.Verdict.the-variants as verdict

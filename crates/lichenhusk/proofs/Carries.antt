@@ -1,14 +1,8 @@
 -- The strip carries the answer whole: words that fit 32 bits are read back as they are, and the code that is returned is the first; with 40
 -- the strip was short. Assumes nothing.
-use mathlib.Core.Path.{_≡_, sym, _∙_}
-use mathlib.Core.List.{List, [], _∷_, _++_, append-assoc}
-use Prim.Native.Nat.{ℕ, zero, suc, _+_, _*_, _≤_, _<_}
-use native.Mathlib.Decide.{decLt}
-use native.Mathlib.Omega.{arith}
-use borrow.Author.Tests.{lt-ltb, le-ltb}
-use lib.ListN.{length, drop, getD}
-use lib.Seq.{drop-append-add}
-use Rattle.width.specs.Width.{le, bytesOf}
+use Rattle.rules.proofs.Prelude.{_≡_, sym, _∙_, List, [], _∷_, _++_, append-assoc, ℕ, zero, suc, _+_, _*_, _≤_, _<_, decLt, arith, lt-ltb, le-ltb, length}
+use Rattle.rules.proofs.Prelude.{drop, getD, drop-append-add}
+use Rattle.width.specs.Width.{bytesOf}
 use Rattle.width.proofs.Laws.{bytes-length, le-bytes}
 use Rattle.words.specs.Five.{bytesOfWords}
 use Rattle.lichenhusk.specs.Strip.{returned, stripAfter}

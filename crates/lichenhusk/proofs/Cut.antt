@@ -1,14 +1,7 @@
 -- An accepted dictionary cut anywhere before its trimmed end makes every call that takes it answer 11 or 13 at place 0, with all other words 0;
 -- an accepted object cut likewise, 21 or 23; and a listing's words stay as they were lent. Assumes nothing.
-use mathlib.Core.Path.{_≡_, refl, _∙_}
-use mathlib.Core.Bool.{Bool, true, false, cond}
-use mathlib.Core.Logic.{_⊎_, ⊎-elim}
-use mathlib.Core.Logic._⊎_.{inl, inr}
-use mathlib.Core.List.{List, [], _∷_}
-use Prim.Native.Nat.{ℕ, _<_}
-use lib.Dec.{ltb}
-use lib.ListN.{length, take}
-use Rattle.rules.specs.Rules.{Answer, accept, refuse, RefusedAs}
+use Rattle.rules.proofs.Prelude.{_≡_, refl, _∙_, Bool, true, false, cond, _⊎_, ⊎-elim, inl, inr, List, [], _∷_, ℕ, _<_, ltb, length, take, Answer, accept}
+use Rattle.rules.proofs.Prelude.{refuse, RefusedAs}
 use Rattle.metadata.specs.Dictionary as dictionary
 use Rattle.metadata.proofs.Cut as dictionary-cuts
 use Rattle.object.specs.Object as object

@@ -1,9 +1,5 @@
 -- What a call leaves: with 40 the strip as it was, otherwise the five words. Assumes nothing.
-use mathlib.Core.Path.{_≡_, refl}
-use mathlib.Core.List.{List}
-use Prim.Native.Nat.{ℕ, _≤_, _<_}
-use borrow.Author.Tests.{lt-ltb, le-ltb}
-use lib.ListN.{length}
+use Rattle.rules.proofs.Prelude.{_≡_, List, ℕ, _≤_, _<_, lt-ltb, le-ltb, length}
 use Rattle.words.specs.declared.Words.{Words}
 use Rattle.words.specs.Steps.{listOf, Wrote}
 use Rattle.lichenhusk.specs.Strip.{returned, stripAfter}

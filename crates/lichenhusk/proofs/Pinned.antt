@@ -1,7 +1,5 @@
 -- Each call's promise fixes its answer: two codes, strips, words and rooms that meet it are equal. Assumes nothing.
-use mathlib.Core.Path.{_≡_, sym, _∙_}
-use mathlib.Core.List.{List}
-use Prim.Native.Nat.{ℕ}
+use Rattle.rules.proofs.Prelude.{_≡_, sym, _∙_, List, ℕ}
 use Rattle.lichenhusk.specs.Promises.{Left, ListPromise, EmptyPromise}
 
 -- lookup, dictionary, name and layer

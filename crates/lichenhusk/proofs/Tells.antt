@@ -1,14 +1,6 @@
 -- What a host learns from each call, whatever code was returned (specs/Host.antt); and no word of any answer is too large for its four bytes.
 -- Assumes nothing.
-use mathlib.Core.Path.{_≡_, refl, ap, _∙_}
-use mathlib.Core.List.{List, _++_}
-use Prim.Native.Nat.{ℕ, _*_, _<_}
-use native.Mathlib.Decide.{decLt}
-use native.Mathlib.Omega.{arith}
-use borrow.Author.Tests.{lt-ltb, le-ltb}
-use lib.ListN.{length, drop}
-use Rattle.rules.specs.Rules.{codeOf}
-use Rattle.rules.proofs.Laws.{by-meaning}
+use Rattle.rules.proofs.Prelude.{_≡_, refl, ap, _∙_, List, _++_, ℕ, _*_, _<_, decLt, arith, lt-ltb, le-ltb, length, drop, codeOf, by-meaning}
 use Rattle.metadata.specs.Dictionary as dictionary
 use Rattle.metadata.proofs.Means as dictionary-means
 use Rattle.metadata.proofs.Refuses as dictionary-refuses

@@ -1,12 +1,10 @@
 -- Document 01's starred worked cases: the definitions answer each as the document does. Assumes nothing.
-use mathlib.Core.Path.{_≡_, refl}
-use mathlib.Core.List.{map}
+use Rattle.rules.proofs.Prelude.{_≡_, refl, map, first, each, _orElse_, _otherwise_}
 use Rattle.width.specs.Width.{le, bytesOf}
 use Rattle.walk.specs.Walk.{upTo}
 use Rattle.utf8.specs.Utf8.{leadOf, tailsOf, char, textUpTo}
 use Rattle.names.specs.Order.{compareOf, below}
 use Rattle.names.specs.Search.{same, seek}
-use Rattle.rules.specs.Rules.{first, each, _orElse_, _otherwise_}
 use Rattle.metadata.specs.Limits.{limit, u32Max}
 use Rattle.metadata.specs.Dictionary as dictionary
 use Rattle.object.specs.Object as object

@@ -1,16 +1,7 @@
 -- Bytes added after the dictionary, after the object or after both, each within the limit, change neither the listing nor its words, unless
 -- the answer was empty or short (11, 13, 21 or 23). Assumes nothing.
-use mathlib.Core.Path.{_≡_, refl}
-use mathlib.Core.Bool.{false}
-use mathlib.Core.List.{List, [], _∷_, _++_}
-use Prim.Native.Nat.{ℕ, zero, suc, _+_, _*_, _≤_, _<_}
-use native.Mathlib.Omega.{arith}
-use lib.ListN.{length, drop}
-use Rattle.rules.specs.Rules.{Found, Stays, codeOf, first, _otherwise_}
-use Rattle.rules.specs.Rules.Test.{_<?_}
-use Rattle.rules.specs.Rules.Rule.{_⇒_at_}
-use Rattle.rules.specs.Rules.Found.{pass, stop}
-use Rattle.rules.proofs.Laws.{both-pass, same-stays, stays-then, stays-answer}
+use Rattle.rules.proofs.Prelude.{_≡_, refl, false, List, [], _∷_, _++_, ℕ, zero, suc, _+_, _*_, _≤_, _<_, arith, length, drop, Found, Stays, codeOf, first}
+use Rattle.rules.proofs.Prelude.{_otherwise_, _<?_, _⇒_at_, pass, stop, both-pass, same-stays, stays-then, stays-answer}
 use Rattle.metadata.specs.Limits.{limit}
 use Rattle.object.specs.Object.{count, offset, start, checks, layer}
 use Rattle.object.proofs.Means.{good}

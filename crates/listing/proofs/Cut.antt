@@ -1,12 +1,6 @@
 -- An accepted dictionary cut anywhere before its trimmed end makes the listing answer 11 or 13 at place 0, an accepted object cut likewise 21
 -- or 23; and the words stay as they were lent. Assumes nothing.
-use mathlib.Core.Path.{_≡_, refl}
-use mathlib.Core.Logic.{⊎-elim}
-use mathlib.Core.List.{List, [], _∷_}
-use Prim.Native.Nat.{ℕ, _<_}
-use lib.ListN.{take}
-use Rattle.rules.specs.Rules.{accept, StopsAs, RefusedAs}
-use Rattle.rules.proofs.Laws.{stops-first, refused-as}
+use Rattle.rules.proofs.Prelude.{_≡_, ⊎-elim, List, [], _∷_, ℕ, _<_, take, accept, StopsAs, RefusedAs, stops-first, refused-as}
 use Rattle.metadata.specs.Dictionary as dictionary
 use Rattle.object.specs.Object.{checks, verdict}
 use Rattle.object.proofs.Cut.{dictionary-stopped, object-stopped}

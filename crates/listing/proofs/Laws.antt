@@ -1,11 +1,5 @@
 -- The least above a number, one more number at a time. Assumes nothing.
-use mathlib.Core.Path.{_≡_, refl}
-use mathlib.Core.Bool.{Bool, true, false, cond, _&&_, _||_}
-use Prim.Native.Nat.{ℕ, _+_, _≤_, _<_}
-use native.Mathlib.Numerals.{add-one}
-use native.Mathlib.Omega.{arith}
-use borrow.Author.Tests.{ltb-true}
-use lib.Dec.{ltb, leb}
+use Rattle.rules.proofs.Prelude.{_≡_, refl, Bool, true, false, cond, _&&_, _||_, ℕ, _+_, _≤_, _<_, add-one, arith, ltb-true, ltb, leb}
 use Rattle.listing.specs.Words.{nearer, leastAbove}
 
 pub nearer-within : (x best y m : ℕ) → x ≤ best → best < m → y < m → (x ≤ nearer x best y) × (nearer x best y < m)

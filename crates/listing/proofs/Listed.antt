@@ -1,19 +1,7 @@
 -- The words of a listing: three a field in field order, its id, its start and its span.
 -- The span runs to the least of the n + 1 offsets above the field's own, and is 0 if none is. Assumes nothing.
-use mathlib.Core.Path.{_≡_, refl, _∙_}
-use mathlib.Core.Logic.{_⊎_}
-use mathlib.Core.Logic._⊎_.{inl, inr}
-use mathlib.Core.Bool.{Bool, true, false, cond, _&&_, _||_}
-use mathlib.Core.List.{List, _++_}
-use Prim.Native.Nat.{ℕ, zero, suc, _+_, _-_, _*_, _≤_, _<_}
-use native.Mathlib.Decide.{decLt}
-use native.Mathlib.Nat.{add-zero}
-use native.Mathlib.Omega.{arith}
-use borrow.Author.Tests.{ltb-true, ltb-false, leb-true, leb-false}
-use lib.Dec.{ltb, leb}
-use lib.ListN.{getD, List·getD-append}
-use lib.Seq.{getD-append-add}
-use Rattle.rules.proofs.Laws.{and-last}
+use Rattle.rules.proofs.Prelude.{_≡_, refl, _∙_, _⊎_, inl, inr, Bool, true, false, cond, _&&_, _||_, List, _++_, ℕ, zero, suc, _+_, _-_, _*_, _≤_, _<_, decLt}
+use Rattle.rules.proofs.Prelude.{add-zero, arith, ltb-true, ltb-false, leb-true, leb-false, ltb, leb, getD, List·getD-append, getD-append-add, and-last}
 use Rattle.object.specs.Object.{count, id, offset, start}
 use Rattle.listing.specs.Words.{leastAbove, span, row, rows}
 use Rattle.listing.proofs.Rows.{rows-length}

@@ -1,17 +1,7 @@
 -- The listing is accepted exactly when the layer is and there is room; it says 41 exactly when the layer is accepted and there is not; and it
 -- refuses otherwise as the verdict does. Assumes nothing.
-use mathlib.Core.Path.{_≡_, refl, _∙_}
-use mathlib.Core.Logic.{_↔_, _⊎_, ⊎-elim}
-use mathlib.Core.Logic._⊎_.{inl, inr}
-use mathlib.Core.List.{List, [], _∷_, _++_}
-use Prim.Native.Nat.{ℕ, _*_}
-use native.Mathlib.Omega.{arith}
-use lib.ListN.{length, drop}
-use Rattle.rules.specs.Rules.{Answer, accept, refuse}
-use Rattle.rules.specs.Rules.Test.{_<?_}
-use Rattle.rules.specs.Rules.Rule.{_⇒_at_}
-use Rattle.rules.specs.Rules.Found.{pass, stop}
-use Rattle.rules.proofs.Laws.{Meant, answered, refused, goes, stops, first-at, first-pass, by-rows, meant-then, meant-map, by-meaning}
+use Rattle.rules.proofs.Prelude.{_≡_, refl, _∙_, _↔_, _⊎_, ⊎-elim, inl, inr, List, [], _∷_, _++_, ℕ, _*_, arith, length, drop, Answer, accept, refuse, _<?_}
+use Rattle.rules.proofs.Prelude.{_⇒_at_, pass, stop, Meant, answered, refused, goes, stops, first-at, first-pass, by-rows, meant-then, meant-map, by-meaning}
 use Rattle.object.specs.Object.{count, start, end}
 use Rattle.object.specs.Meaning.{Refusal}
 use Rattle.object.proofs.Means.{checks-mean}

@@ -1,10 +1,6 @@
 -- The call's promise fixes its whole answer, and the lent words after it: two answers that meet it are equal. The answer is read back out of
 -- document 01's numbers, so no two cases have the same. Assumes nothing.
-use mathlib.Core.Path.{_≡_, refl, sym, _∙_}
-use mathlib.Core.List.{List, [], _∷_}
-use Prim.Native.Nat.{ℕ}
-use Rattle.rules.specs.Rules.{Answer}
-use Rattle.rules.specs.Rules.Answer.{gives}
+use Rattle.rules.proofs.Prelude.{_≡_, refl, sym, _∙_, List, [], _∷_, ℕ, Answer, gives}
 use Rattle.metadata.proofs.Pinned.{refusalBy as dictionaryBy, by-back}
 use Rattle.object.proofs.Pinned.{refusalBy, refusal-back}
 use Rattle.listing.specs.declared.Listing.{Listing}

@@ -1,11 +1,6 @@
 -- Words that are written from the front, three a field. Assumes nothing.
-use mathlib.Core.Path.{_≡_, refl, sym, _∙_}
-use mathlib.Core.List.{List, [], _∷_, _++_}
-use Prim.Native.Nat.{ℕ, zero, suc, _+_, _*_, _≤_}
-use native.Mathlib.Numerals.{add-one}
-use native.Mathlib.Omega.{arith}
-use lib.ListN.{length, set, drop, length-append, length-drop}
-use lib.Seq.{sets, sets-eq, take-at, drop-append-add, drop-drop}
+use Rattle.rules.proofs.Prelude.{_≡_, refl, sym, _∙_, List, [], _∷_, _++_, ℕ, zero, suc, _+_, _*_, _≤_, add-one, arith, length, set, drop, length-append}
+use Rattle.rules.proofs.Prelude.{length-drop, sets, sets-eq, take-at, drop-append-add, drop-drop}
 use Rattle.object.specs.Object.{id, offset, start}
 use Rattle.listing.specs.Words.{span, row, rows}
 

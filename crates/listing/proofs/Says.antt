@@ -1,12 +1,6 @@
 -- What the code's own answers say: each case of what `list` returns with what it leaves in the words, exactly when, in the words of
 -- specs/Meaning.antt. An answer that meets the promise is meant. Assumes nothing.
-use mathlib.Core.Path.{_≡_, sym, _∙_}
-use mathlib.Core.Bool.{true, false}
-use mathlib.Core.Logic.{_↔_}
-use mathlib.Core.List.{List, _++_}
-use Prim.Native.Nat.{ℕ, _*_}
-use lib.ListN.{drop}
-use Rattle.rules.proofs.Laws.{false-true}
+use Rattle.rules.proofs.Prelude.{_≡_, sym, _∙_, true, false, _↔_, List, _++_, ℕ, _*_, drop, false-true}
 use Rattle.metadata.proofs.Pinned.{refusalBy as dictionaryBy}
 use Rattle.object.specs.declared.Refusal.{Refusal}
 use Rattle.object.specs.Answers.{refusalNumber, refusalPlace}

@@ -1,18 +1,11 @@
 -- Bytes added after the dictionary, after the object or after both, each within the limit, change neither the lookup nor the child's bytes
 -- and place, unless the answer was empty or short (11, 13, 21 or 23). Assumes nothing.
-use mathlib.Core.Path.{_≡_, refl}
-use mathlib.Core.List.{List, _++_}
-use Prim.Native.Nat.{ℕ, _≤_, _<_}
-use native.Mathlib.Omega.{arith}
-use lib.ListN.{length}
+use Rattle.rules.proofs.Prelude.{_≡_, refl, List, _++_, ℕ, _≤_, _<_, arith, length, codeOf, pass, stays-answer}
 use Rattle.part.specs.Part.{part}
 use Rattle.part.proofs.Laws.{part-append}
 use Rattle.names.specs.Search.{Sought, seek}
 use Rattle.names.specs.Search.Sought.{nowhere, here}
 use Rattle.names.proofs.Search.{seek-at, seek-same}
-use Rattle.rules.specs.Rules.{codeOf}
-use Rattle.rules.specs.Rules.Found.{pass}
-use Rattle.rules.proofs.Laws.{stays-answer}
 use Rattle.metadata.specs.Limits.{limit}
 use Rattle.object.specs.Object.{count, start, fieldName, checks}
 use Rattle.object.proofs.Laws.{passes, entry-of}

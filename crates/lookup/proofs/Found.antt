@@ -1,18 +1,11 @@
 -- The lookup finds field k exactly when the layer is accepted and k is its field of that name; it says absent exactly when the layer is
 -- accepted and has no such field; it refuses as the verdict does; and never two fields have one name. Assumes nothing.
-use mathlib.Core.Path.{_≡_, refl, sym, _∙_}
-use mathlib.Core.Logic.{_↔_}
-use mathlib.Core.List.{List, [], _∷_}
-use Prim.Native.Nat.{ℕ, _≤_, _<_}
-use native.Mathlib.Omega.{arith}
-use lib.ListN.{length}
+use Rattle.rules.proofs.Prelude.{_≡_, refl, _∙_, _↔_, List, [], _∷_, ℕ, _≤_, _<_, arith, length, Answer, accept, refuse, answered, refused}
+use Rattle.rules.proofs.Prelude.{by-meaning}
 use Rattle.names.specs.Search.{Sought, seek}
 use Rattle.names.specs.Search.Sought.{nowhere, here}
 use Rattle.names.proofs.Search as names
-use Rattle.rules.specs.Rules.{Answer, accept, refuse}
-use Rattle.rules.specs.Rules.Found.{stop}
-use Rattle.rules.proofs.Laws.{answered, refused, meant-map, by-meaning}
-use Rattle.object.specs.Object.{count, start, end, fieldName, checks}
+use Rattle.object.specs.Object.{count, start, end, fieldName}
 use Rattle.object.specs.Meaning.{Layer, Refusal}
 use Rattle.object.proofs.Laws.{names-rise, end-is}
 use Rattle.object.proofs.Means.{checks-mean}

@@ -1,11 +1,7 @@
 -- Each public call's promise fixes its whole answer: two answers that meet it are equal. The lookup's answer is read back out of document
 -- 01's numbers, so no two cases have the same. Assumes nothing.
-use mathlib.Core.Path.{_≡_, refl, sym, _∙_}
-use mathlib.Core.List.{List, [], _∷_}
-use Prim.Native.Nat.{ℕ}
+use Rattle.rules.proofs.Prelude.{_≡_, refl, sym, _∙_, List, [], _∷_, ℕ, Answer, gives}
 use denote.Ref.{RefT}
-use Rattle.rules.specs.Rules.{Answer}
-use Rattle.rules.specs.Rules.Answer.{gives}
 use Rattle.metadata.proofs.Pinned.{refusalBy as dictionaryBy, by-back}
 use Rattle.object.proofs.Pinned.{refusalBy, refusal-back}
 use Rattle.lookup.specs.declared.Lookup.{Lookup}

@@ -1,13 +1,7 @@
 -- What the code's own answers say: each case of what a call returns, exactly when, in the words of specs/Meaning.antt. An answer that meets
 -- the call's promise is meant. Assumes nothing.
-use mathlib.Core.Path.{_≡_}
-use mathlib.Core.Bool.{true, false}
-use mathlib.Core.Logic.{_↔_}
-use mathlib.Core.List.{List}
-use Prim.Native.Nat.{ℕ}
+use Rattle.rules.proofs.Prelude.{_≡_, true, false, _↔_, List, ℕ, _otherwise_, swap, false-true}
 use denote.Ref.{RefT}
-use Rattle.rules.specs.Rules.{_otherwise_}
-use Rattle.rules.proofs.Laws.{swap, false-true}
 use Rattle.metadata.proofs.Pinned.{refusalBy as dictionaryBy}
 use Rattle.object.specs.declared.Refusal.{Refusal}
 use Rattle.object.specs.Answers.{refusalNumber, refusalPlace}

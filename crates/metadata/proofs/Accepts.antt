@@ -1,12 +1,6 @@
 -- A dictionary is accepted, with its entry count and its trimmed end, exactly when the rules of document 01 hold of it (the record
 -- `Dictionary` of specs/Meaning.antt). Assumes nothing.
-use mathlib.Core.Path.{_≡_, _∙_}
-use mathlib.Core.Logic.{_↔_}
-use mathlib.Core.List.{List, [], _∷_}
-use Prim.Native.Nat.{ℕ}
-use Rattle.rules.specs.Rules.{accept}
-use Rattle.rules.specs.Rules.Found.{pass}
-use Rattle.rules.proofs.Laws.{let-through, answered, each-pass}
+use Rattle.rules.proofs.Prelude.{_≡_, _∙_, _↔_, List, [], _∷_, ℕ, accept, pass, let-through, answered, each-pass}
 use Rattle.metadata.specs.Dictionary.{count, end, entryRules, checks, verdict}
 use Rattle.metadata.specs.Meaning.{Dictionary}
 use Rattle.metadata.proofs.Means.{by-entries, good-passed, good}

@@ -1,20 +1,10 @@
 -- Bytes added after a dictionary, within the limit, change no answer but 11 and 13: neither the verdict, nor a name by its number, nor `checked`.
 -- With the laws by which each number stays as it is, for the layers above. Assumes nothing.
-use mathlib.Core.Path.{_≡_, refl, sym, ap, _∙_}
-use mathlib.Core.Bool.{Bool, false, _||_}
-use mathlib.Core.List.{List, [], _∷_, _++_}
-use Prim.Native.Nat.{ℕ, _+_, _-_, _*_, _≤_, _<_}
-use native.Mathlib.Omega.{arith}
-use borrow.Author.Tests.{ne-eqb}
-use lib.Dec.{eqb}
-use lib.ListN.{length, length-append, List·getD-append}
+use Rattle.rules.proofs.Prelude.{_≡_, refl, sym, ap, _∙_, Bool, false, _||_, List, [], _∷_, _++_, ℕ, _+_, _-_, _*_, _≤_, _<_, arith, ne-eqb, eqb, length}
+use Rattle.rules.proofs.Prelude.{length-append, List·getD-append, Found, Kept, Stays, accept, codeOf, first, each, _orElse_, _≤?_, _⇒_at_, pass, _&_, passed}
+use Rattle.rules.proofs.Prelude.{both-pass, each-same, kept, same-stays, stays-then, stays-answer}
 use Rattle.width.proofs.Laws.{le-append-at}
 use Rattle.part.proofs.Laws.{part-append}
-use Rattle.rules.specs.Rules.{Found, Kept, Stays, accept, codeOf, first, each, _orElse_}
-use Rattle.rules.specs.Rules.Test.{_≤?_}
-use Rattle.rules.specs.Rules.Rule.{_⇒_at_}
-use Rattle.rules.specs.Rules.Found.{pass}
-use Rattle.rules.proofs.Laws.{_&_, passed, both-pass, each-same, kept, same-stays, stays-then, stays-answer}
 use Rattle.metadata.specs.declared.Refusal.the-variants.{Empty, Short}
 use Rattle.metadata.specs.declared.Head.{Head}
 use Rattle.metadata.specs.declared.Head.the-variants as head

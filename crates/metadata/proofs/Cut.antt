@@ -1,12 +1,6 @@
 -- An accepted dictionary, cut anywhere before its trimmed end, is refused as empty or short at place 0, whatever is asked. Assumes nothing.
-use mathlib.Core.Path.{_≡_}
-use mathlib.Core.List.{List, [], _∷_}
-use Prim.Native.Nat.{ℕ, _<_}
-use native.Mathlib.Omega.{arith}
-use lib.ListN.{take, drop, length-take, take-append-drop}
-use Rattle.rules.specs.Rules.{Kept, accept, first, StopsAs, RefusedAs}
-use Rattle.rules.specs.Rules.Found.{pass}
-use Rattle.rules.proofs.Laws.{let-through, both-pass, passed, cut-stops, stops-first, refused-as}
+use Rattle.rules.proofs.Prelude.{_≡_, List, [], _∷_, ℕ, _<_, arith, take, drop, length-take, take-append-drop, Kept, accept, first, StopsAs, RefusedAs, pass}
+use Rattle.rules.proofs.Prelude.{let-through, both-pass, passed, cut-stops, stops-first, refused-as}
 use Rattle.metadata.specs.Dictionary.{count, end, headRules, checks, verdict, nameAt}
 use Rattle.metadata.proofs.Means.{good}
 use Rattle.metadata.proofs.Appended.{lifted, end-same, head-kept}

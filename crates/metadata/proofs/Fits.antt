@@ -1,17 +1,9 @@
 -- Every number of the dictionary's answers fits 32 bits: what an accepted one gives, and each refusal's number and place. Assumes nothing.
-use mathlib.Core.Path.{_≡_}
-use mathlib.Core.List.{List}
-use Prim.Native.Nat.{ℕ, _+_, _≤_, _<_}
-use native.Mathlib.Nat.{mul-le-mul-right}
-use native.Mathlib.Omega.{arith}
+use Rattle.rules.proofs.Prelude.{_≡_, List, ℕ, _+_, _≤_, _<_, mul-le-mul-right, arith, Passed, stop, Meant, meant-then, meant-stop, rows-mean, each-means}
 use Rattle.utf8.proofs.Laws.{text-le}
-use Rattle.rules.specs.Rules.{Passed}
-use Rattle.rules.specs.Rules.Found.{stop}
-use Rattle.rules.proofs.Laws.{Meant, meant-then, meant-stop, rows-mean, each-means}
 use Rattle.metadata.specs.Limits.{u32Max}
 use Rattle.metadata.specs.Dictionary.{width, count, offset, start, end, region, headRules, regionRules, entryRules, checks}
-use Rattle.metadata.specs.Meaning.{Dictionary, Refusal}
-use Rattle.metadata.proofs.Refuses.{is-due}
+use Rattle.metadata.specs.Meaning.{Dictionary}
 use Rattle.metadata.proofs.Laws.{start-before, end-is, region-length}
 
 -- a number and a place of 32 bits
@@ -23,10 +15,6 @@ pub record Small (c p : ℕ) : Type 0 where
 count-below : (d : List ℕ) → count d < start d
 unfolding start width
 count-below d = omega (arith, mul-le-mul-right {m = 1} {n = width d} (count d + 1) (omega arith))
-
--- a number at place 0
-pub small-zero : (c : ℕ) → c < 100 → Small c 0
-small-zero c h = omega arith
 
 -- a refusal's number is 10 to 18, so that none is taken for another answer's
 abbrev pub Ours : ℕ → ℕ → Type 0
@@ -41,9 +29,6 @@ checks-fit d =
 
 pub checks-code : (d : List ℕ) {c p : ℕ} → checks d ≡ stop c p → (10 ≤ c) × (c < 19) × (p < 4294967296)
 checks-code d e = meant-stop (checks-fit d) e
-
-pub refusal-small : (d : List ℕ) {c p : ℕ} → Refusal d c p → Small c p
-refusal-small d r = omega (arith, checks-code d (is-due d r))
 
 -- the count, the end, and where each name stands
 pub accepted-small : (d : List ℕ) → Dictionary d (count d) (end d) → Small (count d) (end d)

@@ -1,19 +1,11 @@
 -- Where the dictionary's numbers stand, and by which table its checks are settled. Assumes nothing.
-use mathlib.Core.Path.{_≡_, refl, sym, _∙_}
-use mathlib.Core.Bool.{Bool}
-use mathlib.Core.List.{List}
-use Prim.Native.Nat.{ℕ, _+_, _-_, _*_, _≤_}
-use native.Mathlib.Nat.{mul-le-mul-left}
-use native.Mathlib.Omega.{arith}
-use lib.ListN.{length}
+use Rattle.rules.proofs.Prelude.{_≡_, refl, sym, _∙_, Bool, List, ℕ, _+_, _-_, _*_, _≤_, mul-le-mul-left, arith, length, Found, first, each, Passed, Fails}
+use Rattle.rules.proofs.Prelude.{_orElse_, pass, stop, first-pass, passed, stops, goes, unless}
 use Rattle.part.specs.Part.{part}
 use Rattle.part.proofs.Laws.{part-length, part-part}
 use Rattle.utf8.specs.Utf8.{Text}
 use Rattle.utf8.proofs.Laws.{text-all}
 use Rattle.utf8.proofs.Bounds.{text-first}
-use Rattle.rules.specs.Rules.{Found, first, each, Passed, Fails, _orElse_}
-use Rattle.rules.specs.Rules.Found.{pass, stop}
-use Rattle.rules.proofs.Laws.{first-pass, passed, stops, goes, unless}
 use Rattle.metadata.specs.Dictionary.{headRules, regionRules, entryRows, entryRules, checks, sorted, width, count, offset, start, end, region, name, cuts}
 
 -- PLACES

@@ -1,18 +1,12 @@
 -- What the checks come to, row by row: where all pass, the rules of an accepted dictionary hold; where one stops, that refusal is due.
 -- Accepts.antt and Refuses.antt draw their theorems from it. Assumes nothing.
-use mathlib.Core.Path.{_≡_, refl, sym, _∙_}
-use mathlib.Core.List.{List}
-use Prim.Native.Nat.{ℕ, _+_, _-_, _<_}
-use native.Mathlib.Omega.{arith}
+use Rattle.rules.proofs.Prelude.{_≡_, refl, sym, _∙_, List, ℕ, _+_, _-_, _<_, arith, Test, Fails, Passed, first, each, _or_, pass, _&_, false-true, unless}
+use Rattle.rules.proofs.Prelude.{never, first-pass, goes, Meant, Cases, by-rows, by-each, meant-then, meant-map, meant-pass}
 use Rattle.part.specs.Part.{part}
 use Rattle.utf8.proofs.Laws.{text-sound, text-longest, text-whole, text-all}
 use Rattle.names.specs.Order.{below}
 use Rattle.names.proofs.Laws.{below-before, before-below}
-use Rattle.rules.specs.Rules.{Test, Fails, Passed, first, each}
-use Rattle.rules.specs.Rules.Test.{_or_}
-use Rattle.rules.specs.Rules.Found.{pass}
-use Rattle.rules.proofs.Laws.{_&_, false-true, unless, never, first-pass, goes, Meant, Cases, by-rows, by-each, meant-then, meant-map, meant-pass}
-use Rattle.metadata.specs.Dictionary.{sorted, count, offset, end, region, name, cuts, outside, headRules, regionRules, entryRules, checks}
+use Rattle.metadata.specs.Dictionary.{count, offset, end, region, name, cuts, outside, headRules, regionRules, entryRules, checks}
 use Rattle.metadata.specs.Meaning.{Sized, Versioned, Counted, Placed, Headed, Texted, Cut, InRange, GoodEntry, Dictionary, Refusal}
 use Rattle.metadata.specs.Meaning.Refusal.{too-long, empty, other-version, count-cut, start-sum, start-short, first-offset, end-sum, end-short, no-text, bad-range, not-above}
 use Rattle.metadata.proofs.Laws.{by-region}

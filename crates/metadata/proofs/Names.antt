@@ -1,15 +1,8 @@
 -- The names of an accepted dictionary: exactly when a number gives a name, 31 or a refusal; the bytes where the answer says are the name, and
 -- well-formed text; and the names of a sorted dictionary increase, each before every later one. Assumes nothing.
-use mathlib.Core.Path.{_≡_, refl, _∙_}
-use mathlib.Core.Bool.{true}
-use mathlib.Core.Logic.{_↔_, _⊎_, ⊎-elim}
-use mathlib.Core.Logic._⊎_.{inl, inr}
-use mathlib.Core.List.{List, [], _∷_}
-use Prim.Native.Nat.{ℕ, _+_, _-_, _≤_, _<_}
-use native.Mathlib.Decide.{decLt}
-use native.Mathlib.Omega.{arith}
-use lib.ListN.{length, take}
-use lib.Seq.{take-all, take-add}
+use Rattle.rules.proofs.Prelude.{_≡_, refl, _∙_, true, _↔_, _⊎_, ⊎-elim, inl, inr, List, [], _∷_, ℕ, _+_, _-_, _≤_, _<_, decLt, arith, length, take, take-all}
+use Rattle.rules.proofs.Prelude.{take-add, Answer, Found, accept, refuse, first, _orElse_, _≤?_, _⇒_at_, pass, Meant, answered, refused, stops, goes}
+use Rattle.rules.proofs.Prelude.{first-at, first-pass, by-rows, meant-then, meant-map, by-meaning}
 use Rattle.part.specs.Part.{part}
 use Rattle.walk.proofs.Laws.{items-rest}
 use Rattle.utf8.specs.Utf8.{Text, Char, char}
@@ -17,12 +10,7 @@ use Rattle.utf8.proofs.Laws.{chars}
 use Rattle.utf8.proofs.Bounds.{bound}
 use Rattle.names.specs.Search.{Rising}
 use Rattle.names.proofs.Search.{rising-all}
-use Rattle.rules.specs.Rules.{Answer, Found, accept, refuse, first, _orElse_}
-use Rattle.rules.specs.Rules.Test.{_≤?_}
-use Rattle.rules.specs.Rules.Rule.{_⇒_at_}
-use Rattle.rules.specs.Rules.Found.{pass}
-use Rattle.rules.proofs.Laws.{Meant, answered, refused, stops, goes, first-at, first-pass, by-rows, meant-then, meant-map, by-meaning}
-use Rattle.metadata.specs.Dictionary.{sorted, count, offset, start, end, region, name, checks, nameAt}
+use Rattle.metadata.specs.Dictionary.{sorted, count, offset, end, region, name, checks, nameAt}
 use Rattle.metadata.specs.Meaning.{Cut, Dictionary, Refusal, Named, NoEntry}
 use Rattle.metadata.proofs.Laws.{name-part}
 use Rattle.metadata.proofs.Means.{good, checks-mean}

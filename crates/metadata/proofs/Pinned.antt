@@ -1,14 +1,6 @@
 -- Each public call's promise fixes its whole answer, and the lent room after it: two answers that meet it are equal. Each answer is read back
 -- out of document 01's numbers, so no two cases have the same. Assumes nothing.
-use mathlib.Core.Path.{_≡_, refl, sym, ap, _∙_}
-use mathlib.Core.Bool.{cond}
-use mathlib.Core.List.{List}
-use Prim.Native.Nat.{ℕ, _+_}
-use lib.Dec.{eqb}
-use lib.ListN.{getD}
-use Rattle.rules.specs.Rules.{Answer, Found}
-use Rattle.rules.specs.Rules.Answer.{gives}
-use Rattle.rules.specs.Rules.Found.{pass, stop}
+use Rattle.rules.proofs.Prelude.{_≡_, refl, sym, ap, _∙_, cond, List, ℕ, _+_, eqb, getD, Answer, Found, gives, pass, stop}
 use Rattle.metadata.specs.declared.Refusal.{Refusal}
 use Rattle.metadata.specs.declared.Refusal.the-variants.{TooLong, Empty, Version, Short, Sum, FirstOffset, NotUtf8, Range, NotAbove}
 use Rattle.metadata.specs.declared.Span.{Span}

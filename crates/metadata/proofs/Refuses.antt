@@ -1,16 +1,10 @@
 -- A dictionary is refused, with a number and a place, exactly when document 01's table says so, its checks taken in their order (the data
 -- type `Refusal` of specs/Meaning.antt). Assumes nothing.
-use mathlib.Core.Path.{_≡_, sym, _∙_}
-use mathlib.Core.Logic.{_↔_}
-use mathlib.Core.List.{List, [], _∷_}
-use Prim.Native.Nat.{ℕ, _<_}
-use native.Mathlib.Omega.{arith}
+use Rattle.rules.proofs.Prelude.{_≡_, sym, _∙_, _↔_, List, [], _∷_, ℕ, _<_, arith, refuse, first, stop, _&_, surely, first-at, stops, turned-down, refused}
+use Rattle.rules.proofs.Prelude.{each-pass, each-stop, meant-stop}
 use Rattle.utf8.specs.Utf8.{textUpTo}
 use Rattle.utf8.proofs.Laws.{text-le, text-sound, text-longest}
 use Rattle.names.proofs.Laws.{not-below}
-use Rattle.rules.specs.Rules.{refuse, first}
-use Rattle.rules.specs.Rules.Found.{stop}
-use Rattle.rules.proofs.Laws.{_&_, surely, first-at, stops, turned-down, refused, each-pass, each-stop, meant-stop}
 use Rattle.metadata.specs.Dictionary.{count, end, region, regionRules, entryRules, checks, verdict}
 use Rattle.metadata.specs.Meaning.{Texted, GoodEntry, LongestText, Refusal}
 use Rattle.metadata.specs.Meaning.Refusal.{too-long, empty, other-version, count-cut, start-sum, start-short, first-offset, end-sum, end-short, no-text, bad-range, not-above}

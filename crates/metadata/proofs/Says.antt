@@ -1,16 +1,7 @@
 -- What the code's own answers say: each case of what a call returns, exactly when, in the words of specs/Meaning.antt. An answer that meets
 -- the call's promise is meant. Assumes nothing.
-use mathlib.Core.Path.{_≡_, sym, _∙_}
-use mathlib.Core.Bool.{true, false}
-use mathlib.Core.Logic.{_↔_}
-use mathlib.Core.List.{List, [], _++_}
-use Prim.Native.Nat.{ℕ, _≤_, _<_}
-use native.Mathlib.Omega.{arith}
-use borrow.Author.Tests.{lt-ltb, le-ltb}
-use lib.ListN.{length, drop}
-use Rattle.rules.specs.Rules.{refuse, accept}
-use Rattle.rules.specs.Rules.Test.{_<?_, _≤?_}
-use Rattle.rules.proofs.Laws.{swap, false-true, unless, first-at, first-pass, refused, answered, meant-stop}
+use Rattle.rules.proofs.Prelude.{_≡_, sym, _∙_, true, false, _↔_, List, [], _++_, ℕ, _≤_, _<_, arith, lt-ltb, le-ltb, length, drop, refuse, accept, _<?_}
+use Rattle.rules.proofs.Prelude.{_≤?_, swap, false-true, unless, first-at, first-pass, refused, answered, meant-stop}
 use Rattle.metadata.specs.declared.Refusal.{Refusal}
 use Rattle.metadata.specs.declared.Span.{Span}
 use Rattle.metadata.specs.declared.Header.{Header}

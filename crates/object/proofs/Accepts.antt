@@ -1,12 +1,6 @@
 -- An object layer is accepted over a dictionary, with its field count, the region's start and the trimmed end, exactly when the rules of
 -- document 01 hold of both (the record `Layer` of specs/Meaning.antt). Assumes nothing.
-use mathlib.Core.Path.{_≡_, refl, _∙_}
-use mathlib.Core.Logic.{_↔_}
-use mathlib.Core.List.{List, [], _∷_}
-use Prim.Native.Nat.{ℕ}
-use Rattle.rules.specs.Rules.{accept}
-use Rattle.rules.specs.Rules.Found.{pass}
-use Rattle.rules.proofs.Laws.{let-through, answered, goes, each-pass}
+use Rattle.rules.proofs.Prelude.{_≡_, refl, _∙_, _↔_, List, [], _∷_, ℕ, accept, pass, let-through, answered, goes, each-pass}
 use Rattle.metadata.proofs.Accepts as dictionary-accepts
 use Rattle.object.specs.Object.{count, layer, nameRules, offsetRules, checks, verdict}
 use Rattle.object.specs.Meaning.{Layer}

@@ -1,17 +1,9 @@
 -- Bytes added after the dictionary, after the object or after both, each within the limit, change no answer but empty and short (11, 13, 21
 -- and 23). With the laws by which each of the object's numbers stays as it is, for the layers above. Assumes nothing.
-use mathlib.Core.Path.{_≡_, refl, sym, ap, _∙_}
-use mathlib.Core.Bool.{Bool, true, false, _||_}
-use mathlib.Core.List.{List, _++_}
-use Prim.Native.Nat.{ℕ, _+_, _-_, _*_, _≤_, _<_}
-use native.Mathlib.Omega.{arith}
-use borrow.Author.Tests.{ne-eqb}
-use lib.Dec.{eqb}
-use lib.ListN.{length, length-append, List·getD-append}
+use Rattle.rules.proofs.Prelude.{_≡_, refl, sym, ap, _∙_, Bool, true, false, _||_, List, _++_, ℕ, _+_, _-_, _*_, _≤_, _<_, arith, ne-eqb, eqb, length}
+use Rattle.rules.proofs.Prelude.{length-append, List·getD-append, Found, Kept, Stays, codeOf, first, each, _orElse_, pass, _&_, false-true, passed, each-same}
+use Rattle.rules.proofs.Prelude.{each-alike, kept, same-stays, stays-same, stays-more, stays-then, stays-answer}
 use Rattle.width.proofs.Laws.{le-append-at}
-use Rattle.rules.specs.Rules.{Found, Kept, Stays, codeOf, first, each, _orElse_}
-use Rattle.rules.specs.Rules.Found.{pass}
-use Rattle.rules.proofs.Laws.{_&_, false-true, passed, each-same, each-alike, kept, same-stays, stays-same, stays-more, stays-then, stays-answer}
 use Rattle.metadata.specs.Limits.{limit}
 use Rattle.metadata.specs.Dictionary as dictionary
 use Rattle.metadata.proofs.Means as dictionary-means

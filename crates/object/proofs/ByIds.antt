@@ -1,17 +1,9 @@
 -- Over an accepted sorted dictionary ids increase exactly when the names do, so that the checks by ids and by names give the same answers.
 -- Assumes nothing.
-use mathlib.Core.Path.{_≡_, refl}
-use mathlib.Core.Logic.{_↔_}
-use mathlib.Core.Bool.{true, false}
-use mathlib.Core.List.{List}
-use Prim.Native.Nat.{ℕ, _-_, _≤_, _<_}
-use native.Mathlib.Decide.{decLt}
-use native.Mathlib.Omega.{arith}
+use Rattle.rules.proofs.Prelude.{_≡_, refl, _↔_, true, false, List, ℕ, _-_, _≤_, _<_, decLt, arith, first, each, Kept, pass, kept, stays-same, each-alike}
+use Rattle.rules.proofs.Prelude.{_&_}
 use Rattle.names.specs.Order.{Before}
 use Rattle.names.proofs.Laws.{before-ne, before-asym, before-below, not-below}
-use Rattle.rules.specs.Rules.{first, each, Kept}
-use Rattle.rules.specs.Rules.Found.{pass}
-use Rattle.rules.proofs.Laws.{kept, stays-same, each-alike, _&_}
 use Rattle.metadata.specs.Dictionary as dictionary
 use Rattle.metadata.proofs.Names.{rising}
 use Rattle.object.specs.Object.{id, fieldName, nameRules, idRules}

@@ -1,13 +1,7 @@
 -- An accepted dictionary cut anywhere before its trimmed end makes the layer empty or short at place 0, 11 or 13; an accepted object cut
 -- likewise, 21 or 23. Assumes nothing.
-use mathlib.Core.Path.{_≡_}
-use mathlib.Core.List.{List, [], _∷_}
-use Prim.Native.Nat.{ℕ, _<_}
-use native.Mathlib.Omega.{arith}
-use lib.ListN.{take, drop, length-take, take-append-drop}
-use Rattle.rules.specs.Rules.{Kept, accept, first, StopsAs, RefusedAs}
-use Rattle.rules.specs.Rules.Found.{pass}
-use Rattle.rules.proofs.Laws.{let-through, passed, cut-stops, stops-first, stops-next, refused-as}
+use Rattle.rules.proofs.Prelude.{_≡_, List, [], _∷_, ℕ, _<_, arith, take, drop, length-take, take-append-drop, Kept, accept, first, StopsAs, RefusedAs, pass}
+use Rattle.rules.proofs.Prelude.{let-through, passed, cut-stops, stops-first, stops-next, refused-as}
 use Rattle.metadata.specs.Dictionary as dictionary
 use Rattle.metadata.proofs.Cut.{stopped}
 use Rattle.object.specs.Object.{end, headRules, checks, layer, verdict}

@@ -1,10 +1,5 @@
 -- Every number of the layer's answers fits 32 bits: values, and each refusal's number and place. Assumes nothing.
-use mathlib.Core.Path.{_≡_}
-use mathlib.Core.List.{List}
-use Prim.Native.Nat.{ℕ, _+_, _≤_, _<_}
-use native.Mathlib.Omega.{arith}
-use Rattle.rules.specs.Rules.Found.{stop}
-use Rattle.rules.proofs.Laws.{meant-then, meant-map, meant-stop, rows-mean, each-means}
+use Rattle.rules.proofs.Prelude.{_≡_, List, ℕ, _+_, _≤_, _<_, arith, stop, meant-then, meant-map, meant-stop, rows-mean, each-means}
 use Rattle.metadata.specs.Limits.{u32Max}
 use Rattle.metadata.proofs.Fits.{Small, checks-fit}
 use Rattle.object.specs.Object.{count, offset, start, end, headRules, nameRules, offsetRules, checks}

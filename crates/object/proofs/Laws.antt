@@ -1,17 +1,10 @@
 -- Where the layer's numbers stand, and by which table its checks are settled. Assumes nothing.
-use mathlib.Core.Path.{_≡_, refl, _∙_}
-use mathlib.Core.List.{List}
-use Prim.Native.Nat.{ℕ, _+_, _-_, _*_, _≤_, _<_}
-use native.Mathlib.Nat.{mul-le-mul-left, mul-le-mul-right}
-use native.Mathlib.Omega.{arith}
-use lib.ListN.{drop}
+use Rattle.rules.proofs.Prelude.{_≡_, refl, _∙_, List, ℕ, _+_, _-_, _*_, _≤_, _<_, mul-le-mul-left, mul-le-mul-right, arith, drop, Found, first, each, Passed}
+use Rattle.rules.proofs.Prelude.{_orElse_, pass, stop, both-pass, stops, goes, first-pass, each-passed}
 use Rattle.width.specs.Width.{le}
 use Rattle.names.specs.Search.{Rising}
 use Rattle.names.proofs.Laws.{below-before}
 use Rattle.names.proofs.Search.{rising-all}
-use Rattle.rules.specs.Rules.{Found, first, each, Passed, _orElse_}
-use Rattle.rules.specs.Rules.Found.{pass, stop}
-use Rattle.rules.proofs.Laws.{both-pass, stops, goes, first-pass, each-passed}
 use Rattle.metadata.specs.Dictionary as dictionary
 use Rattle.object.specs.Object.{offsetWidth, idWidth, count, idsStart, id, offsetsStart, offset, start, end, fieldName, headRules, nameRules, offsetRules, checks}
 use Rattle.object.specs.Meaning.{InRegion}

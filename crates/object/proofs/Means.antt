@@ -1,13 +1,8 @@
 -- What the checks come to, row by row: where all pass, the rules of an accepted layer hold; where one stops, that refusal is due.
 -- Accepts.antt and Refuses.antt draw their theorems from it. Assumes nothing.
-use mathlib.Core.Path.{_≡_, refl, sym, _∙_}
-use mathlib.Core.List.{List}
-use Prim.Native.Nat.{ℕ, _<_}
-use native.Mathlib.Omega.{arith}
+use Rattle.rules.proofs.Prelude.{_≡_, refl, sym, _∙_, List, ℕ, _<_, arith, first, each, Passed, pass, _&_, false-true, Meant, by-rows, by-each, meant-then}
+use Rattle.rules.proofs.Prelude.{meant-map, meant-pass}
 use Rattle.names.proofs.Laws.{below-before, before-below}
-use Rattle.rules.specs.Rules.{first, each, Passed}
-use Rattle.rules.specs.Rules.Found.{pass}
-use Rattle.rules.proofs.Laws.{_&_, false-true, Meant, by-rows, by-each, meant-then, meant-map, meant-pass}
 use Rattle.metadata.specs.Dictionary as dictionary
 use Rattle.metadata.specs.Meaning as dictionary-meaning
 use Rattle.metadata.proofs.Means as dictionary-means

@@ -1,13 +1,6 @@
 -- Each public call's promise fixes its whole answer: two answers that meet it are equal. Each answer is read back
 -- out of document 01's numbers, so no two cases have the same. Assumes nothing.
-use mathlib.Core.Path.{_≡_, refl, sym, ap, ap₂, _∙_}
-use mathlib.Core.Bool.{cond}
-use mathlib.Core.List.{List, [], _∷_}
-use Prim.Native.Nat.{ℕ}
-use native.Mathlib.Omega.{arith}
-use lib.Dec.{eqb}
-use Rattle.rules.specs.Rules.{Answer}
-use Rattle.rules.specs.Rules.Answer.{gives}
+use Rattle.rules.proofs.Prelude.{_≡_, refl, sym, ap, ap₂, _∙_, cond, List, [], _∷_, ℕ, arith, eqb, Answer, gives}
 use Rattle.metadata.specs.declared.Head.the-variants as dictionary-head
 use Rattle.metadata.proofs.Pinned.{refusalBy as dictionaryBy, refusal-back as dictionary-back, by-back, checked-pinned}
 use Rattle.object.specs.declared.Refusal.{Refusal}

@@ -1,13 +1,7 @@
 -- An object layer is refused, with a number and a place, exactly when document 01's table says so, the dictionary's checks and then its own
 -- taken in their order (the data type `Refusal` of specs/Meaning.antt). Assumes nothing.
-use mathlib.Core.Path.{_≡_, refl, _∙_}
-use mathlib.Core.Logic.{_↔_}
-use mathlib.Core.List.{List, [], _∷_}
-use Prim.Native.Nat.{ℕ, _<_}
-use native.Mathlib.Omega.{arith}
-use Rattle.rules.specs.Rules.{refuse, first}
-use Rattle.rules.specs.Rules.Found.{pass, stop}
-use Rattle.rules.proofs.Laws.{_&_, first-at, stops, goes, turned-down, refused, each-pass, each-stop, meant-stop}
+use Rattle.rules.proofs.Prelude.{_≡_, refl, _∙_, _↔_, List, [], _∷_, ℕ, _<_, arith, refuse, first, pass, stop, _&_, first-at, stops, goes, turned-down}
+use Rattle.rules.proofs.Prelude.{refused, each-pass, each-stop, meant-stop}
 use Rattle.names.proofs.Laws.{not-below}
 use Rattle.metadata.specs.Dictionary as dictionary
 use Rattle.metadata.proofs.Accepts as dictionary-accepts

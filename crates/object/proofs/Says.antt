@@ -1,9 +1,6 @@
 -- What the code's own answers say: each case of what a call returns, exactly when, in the words of specs/Meaning.antt. An answer that meets
 -- the call's promise is meant. Assumes nothing.
-use mathlib.Core.Logic.{_↔_}
-use mathlib.Core.List.{List}
-use Prim.Native.Nat.{ℕ}
-use Rattle.rules.proofs.Laws.{swap, meant-stop}
+use Rattle.rules.proofs.Prelude.{_↔_, List, ℕ, swap, meant-stop}
 use Rattle.object.specs.declared.Refusal.{Refusal}
 use Rattle.object.specs.declared.Message.{Message}
 use Rattle.object.specs.declared.Verdict.the-variants as verdict

@@ -2,7 +2,7 @@
 -- proofs/Accepts.antt and proofs/Refuses.antt show that the verdict of Object.antt says the same. Assumes nothing.
 use mathlib.Core.Path.{_≡_}
 use mathlib.Core.List.{List}
-use Prim.Native.Nat.{ℕ, _+_, _-_, _≤_, _<_}
+use Prim.Native.Nat.{ℕ, _-_, _≤_, _<_}
 use lib.ListN.{length}
 use Rattle.names.specs.Order.{Before}
 use Rattle.metadata.specs.Limits.{limit, u32Max}

@@ -1,9 +1,6 @@
 -- The words of an answer fix the five numbers, and these what their writer leaves: two answers that meet a promise are equal.
 -- Assumes nothing.
-use mathlib.Core.Path.{_≡_, refl, sym, _∙_}
-use mathlib.Core.List.{List}
-use Prim.Native.Nat.{ℕ}
-use lib.ListN.{getD}
+use Rattle.rules.proofs.Prelude.{_≡_, refl, sym, _∙_, List, ℕ, getD}
 use Rattle.metadata.proofs.Pinned.{by-back}
 use Rattle.words.specs.declared.Words.{Words}
 use Rattle.words.specs.Steps.{listOf, Wrote}

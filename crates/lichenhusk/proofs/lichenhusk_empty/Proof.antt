@@ -1,7 +1,5 @@
 -- `lichenhusk::lichenhusk_empty` meets its contract: the code of the answer. Assumes nothing.
-use mathlib.Core.Path.{sym, ap, _∙_}
-use borrow.Author.Needs.{needs}
-use Rattle.rules.specs.Rules.{codeOf}
+use Rattle.rules.proofs.Prelude.{sym, ap, _∙_, needs, codeOf}
 use Rattle.metadata.specs.Answers.{writtenNumbers}
 use Rattle.lichenhusk.proofs.lichenhusk_empty.Statement.{statement}
 use Rattle.lichenhusk.proofs.lichenhusk_empty.Tie as tie
@@ -10,10 +8,7 @@ pub lichenhusk-empty-spec : {M : Type 1} → statement M
 lichenhusk-empty-spec =
     tie.close
     (tie.spec
-    (λ c κs. search needs)  -- write-empty-requires
-    (λ c. search needs)  -- enum-told
-    (λ c. search needs)  -- enum-told-2
-    (λ c. search needs)  -- same-length
+    (λ c κs. search needs) (λ c. search needs) (λ c. search needs) (λ c. search needs)
     (λ c. let e = c .before .before .before .before .write-empty .ensures in
     record { returns = ap codeOf (sym (ap writtenNumbers (c .enum-told .given .1)) ∙ e .answers); leaves = e .leaves })  -- returns
     (λ c. search needs)  -- same-length-2

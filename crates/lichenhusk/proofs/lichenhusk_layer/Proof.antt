@@ -1,7 +1,5 @@
 -- `lichenhusk::lichenhusk_layer` meets its contract: 40, or the words of the answer. Assumes nothing.
-use mathlib.Core.Path.{ap, _∙_}
-use native.Mathlib.Omega.{arith}
-use borrow.Author.Needs.{needs}
+use Rattle.rules.proofs.Prelude.{ap, _∙_, arith, needs}
 use Rattle.words.specs.Five.{fieldWords}
 use Rattle.lichenhusk.proofs.Laws.{no-strip, on-strip}
 use Rattle.lichenhusk.proofs.lichenhusk_layer.Statement.{statement}
@@ -12,10 +10,7 @@ lichenhusk-layer-spec =
     tie.close
     (tie.spec
     (λ c. no-strip _ _ (c .if1 .taken))  -- returns
-    (λ c κs. search needs)  -- check-requires
-    (λ c κs. search needs)  -- of-layer-requires
-    (λ c κs. search needs)  -- write-requires
-    (λ c. search needs)  -- same-length
+    (λ c κs. search needs) (λ c κs. search needs) (λ c κs. search needs) (λ c. search needs)
     (λ c. let w = c .before .before in
     let five = w .before .before in
     on-strip _ _ (omega arith) (five .of-layer .ensures ∙ ap fieldWords (five .before .check .ensures)) (w .write .ensures)))  -- returns-2

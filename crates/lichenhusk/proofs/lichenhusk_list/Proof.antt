@@ -1,9 +1,5 @@
 -- `lichenhusk::lichenhusk_list` meets its contract: 40, or the words of the answer and of the listing. Assumes nothing.
-use mathlib.Core.Path.{ap, _∙_}
-use native.Mathlib.Omega.{arith}
-use borrow.Author.Needs.{needs}
-use borrow.Author.Tests.{lt-ltb, le-ltb}
-use lib.ListN.{length}
+use Rattle.rules.proofs.Prelude.{ap, _∙_, arith, needs, lt-ltb, le-ltb, length}
 use Rattle.words.specs.Five.{fieldWords}
 use Rattle.lichenhusk.specs.Strip.{listAfter}
 use Rattle.lichenhusk.proofs.Laws.{no-strip, on-strip}
@@ -16,11 +12,7 @@ lichenhusk-list-spec =
     tie.close
     (tie.spec
     (λ c. record { strip-left = no-strip _ _ (c .if1 .taken); words-left = rw (lt-ltb _ _ (c .if1 .taken)) })  -- returns
-    (λ c κs. search needs)  -- list-requires
-    (λ c κs. search needs)  -- of-listing-requires
-    (λ c κs. search needs)  -- write-requires
-    (λ c. search needs)  -- same-length
-    (λ c. search needs)  -- same-length-2
+    (λ c κs. search needs) (λ c κs. search needs) (λ c κs. search needs) (λ c. search needs) (λ c. search needs)
     (λ c. let w = c .before .before in
     let five = w .before .before in
     let l = five .before .before .before in

@@ -1,7 +1,5 @@
 -- `listing::least_above` meets its contract: the loop keeps the least above x of the offsets before k. Assumes nothing.
-use mathlib.Core.Path.{_≡_, _∙_}
-use Prim.Native.Nat.{_+_, _-_, _≤_, _<_}
-use native.Mathlib.Omega.{arith}
+use Rattle.rules.proofs.Prelude.{_≡_, _∙_, _+_, _-_, _≤_, _<_, arith}
 use Rattle.object.specs.Object.{offset, count as countOf}
 use Rattle.object.proofs.Laws.{count-below}
 use Rattle.listing.specs.Words.{leastAbove}

@@ -1,10 +1,5 @@
 -- `listing::list` meets its contract: the refusal, or 41, or the rows. Assumes nothing.
-use mathlib.Core.Path.{sym, _∙_}
-use Prim.Native.Nat.{_*_, _≤_, _<_}
-use native.Mathlib.Omega.{arith}
-use borrow.Author.Needs.{needs}
-use lib.ListN.{length}
-use Rattle.rules.proofs.Laws.{refused, answered, stops, goes, first-at, first-pass}
+use Rattle.rules.proofs.Prelude.{sym, _∙_, _*_, _≤_, _<_, arith, needs, length, refused, answered, stops, goes, first-at, first-pass}
 use Rattle.metadata.specs.Limits.{u32Max}
 use Rattle.object.specs.Object.{count}
 use Rattle.object.proofs.Laws.{count-below, in-region}
@@ -17,9 +12,7 @@ unfolding u32Max listChecks listed wordsAfter
 list-spec =
     tie.close
     (tie.spec
-    (λ c κs. search needs)  -- open-requires
-    (λ c. search needs)  -- enum-known-opening
-    (λ c. search needs)  -- enum-known-opening-2
+    (λ c κs. search needs) (λ c. search needs) (λ c. search needs)
     (λ c. let m = rw (c .before .before .before .opening2 .given .1) at (c .before .before .before .before .before .open .ensures) in
     omega (arith, m .layered, count-below (c .before .before .before .before .before .before .before .before .before .args .object .now)))  -- mul-if1
     (λ c. let m = rw (c .before .before .before .before .opening2 .given .1) at (c .before .before .before .before .before .before .open .ensures) in

@@ -1,9 +1,5 @@
 -- `listing::write_rows` meets its contract: the loop keeps the rows before k, and after them the words as they were. Assumes nothing.
-use mathlib.Core.Path.{_≡_, refl}
-use mathlib.Core.List.{_++_}
-use Prim.Native.Nat.{_+_, _-_, _*_, _≤_}
-use native.Mathlib.Omega.{arith}
-use lib.ListN.{length, drop, length-set}
+use Rattle.rules.proofs.Prelude.{_≡_, refl, _++_, _+_, _-_, _*_, _≤_, arith, length, drop, length-set}
 use Rattle.metadata.specs.Limits.{u32Max}
 use Rattle.object.specs.Object.{count as countOf}
 use Rattle.object.proofs.Laws.{end-is}
@@ -32,24 +28,14 @@ write-rows-spec =
     Inv-loop
     μ-loop
     (λ c. (rows-none _ _, omega arith, omega arith, refl))  -- loop-holds
-    (λ c κs. omega arith)  -- offset-at-requires
-    (λ c κs. omega arith)  -- id-at-requires
-    (λ c. omega arith)  -- cast-words
-    (λ c. omega arith)  -- mul-words
-    (λ c. omega arith)  -- slice-write-words
+    (λ c κs. omega arith) (λ c κs. omega arith) (λ c. omega arith) (λ c. omega arith) (λ c. omega arith)
     (λ c. omega (arith, inside (c .before)))  -- add-words
     (λ c. omega (arith, inside (c .before)))  -- cast-words-2
-    (λ c. omega arith)  -- add-words-2
-    (λ c. omega arith)  -- mul-words-2
+    (λ c. omega arith) (λ c. omega arith)
     (λ c. simp length-set (omega arith))  -- slice-write-words-2
-    (λ c κs. omega arith)  -- span-above-requires
-    (λ c. omega arith)  -- cast-words-3
-    (λ c. omega arith)  -- add-words-3
-    (λ c. omega arith)  -- mul-words-3
+    (λ c κs. omega arith) (λ c. omega arith) (λ c. omega arith) (λ c. omega arith)
     (λ c. simp length-set (omega arith))  -- slice-write-words-3
-    (λ c. omega arith)  -- add-at
-    (λ c. omega arith)  -- add-k
-    (λ c. omega arith)  -- loop-less
+    (λ c. omega arith) (λ c. omega arith) (λ c. omega arith)
     (λ c. let l = c .before .before .before .before .before .loop in
     let s = c .before .before .before .before .before .before .before .before in
     let offset-is = c .before .before .before .offset-at .ensures .0 in

@@ -7,9 +7,6 @@ pub child-spec : {M : Type 1} → statement M
 child-spec =
     tie.close
     (tie.spec
-    (λ c κs. search needs)  -- child-place-requires
-    (λ c. search needs)  -- sub-result
-    (λ c. search needs)  -- part-result-start
-    (λ c. search needs)  -- part-result-end
+    (λ c κs. search needs) (λ c. search needs) (λ c. search needs) (λ c. search needs)
     (λ c. let p = c .before .child-place .ensures in
     record { bytes = rw (← p .start-is, ← p .end-is); place = rw (← p .start-is) }))  -- returns

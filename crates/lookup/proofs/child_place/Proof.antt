@@ -1,7 +1,5 @@
 -- `lookup::child_place` meets its contract: each case of the lookup gives its place. Assumes nothing.
-use mathlib.Core.Path.{sym, ap, _∙_}
-use native.Mathlib.Omega.{arith}
-use borrow.Author.Needs.{needs}
+use Rattle.rules.proofs.Prelude.{sym, ap, _∙_, arith, needs}
 use Rattle.lookup.specs.Answers.{lookupNumbers}
 use Rattle.lookup.proofs.Found.{found, found-inside}
 use Rattle.lookup.proofs.child_place.Statement.{statement}
@@ -11,10 +9,7 @@ pub child-place-spec : {M : Type 1} → statement M
 child-place-spec =
     tie.close
     (tie.spec
-    (λ c κs. search needs)  -- get-requires
-    (λ c. search needs)  -- enum-told
-    (λ c. search needs)  -- enum-told-2
-    (λ c. search needs)  -- enum-known-found
+    (λ c κs. search needs) (λ c. search needs) (λ c. search needs) (λ c. search needs)
     (λ c. let e = sym (c .before .before .get .ensures) ∙ ap lookupNumbers (c .enum-told .given .1) in
     record { start-is = rw e; end-is = rw e; rises = omega arith; inside = omega arith })  -- returns
     (λ c. let e = sym (c .before .before .get .ensures) ∙ ap lookupNumbers (c .enum-told2 .given .1) in

@@ -1,8 +1,5 @@
 -- `lookup::find` meets its contract: halving keeps the query between what is below and what is above it. Assumes nothing.
-use mathlib.Core.Path.{sym, _∙_}
-use Prim.Native.Nat.{ℕ, _+_, _-_, _/_, _≤_}
-use native.Mathlib.Omega.{arith}
-use borrow.Author.Needs.{needs}
+use Rattle.rules.proofs.Prelude.{sym, _∙_, ℕ, _+_, _-_, _/_, _≤_, arith, needs}
 use Rattle.names.proofs.Search.{Between, between-all, between-less, between-greater, between-equal, between-none}
 use Rattle.object.specs.Object.{fieldName, count as countOf}
 use Rattle.object.proofs.Laws.{names-rise}
@@ -25,12 +22,9 @@ find-spec =
     Inv-loop
     μ-loop
     (λ c. (omega arith, omega arith, rw (c .before .before .before .before .pre .layered .count-is) (between-all _ _ _)))  -- loop-holds
-    (λ c. omega arith)  -- sub-middle
-    (λ c. omega arith)  -- add-middle
+    (λ c. omega arith) (λ c. omega arith)
     (λ c κs. (c .before .before .before .before .before .before .pre, omega arith))  -- compare-field-requires
-    (λ c. search needs)  -- enum-told
-    (λ c. omega arith)  -- add-low
-    (λ c. omega arith)  -- loop-less
+    (λ c. search needs) (λ c. omega arith) (λ c. omega arith)
     (λ c. let e = sym (c .before .before .compare-field .ensures) ∙ c .enum-told .given .1 in
     let l = c .before .before .before .before .loop in
     let s = c .before .before .before .before .before .before .before .before .before in
@@ -42,8 +36,7 @@ find-spec =
     let s = c .before .before .before .before .before .before .before .before .before in
     let rising = names-rise (s .args .dict .now) (s .args .object .now) (s .pre .passes) in
     sym (between-equal _ _ _ rising (l .low) (l .high) (middle (l .low) (l .high)) (l .inv .2) (omega arith) e))  -- returns
-    (λ c. search needs)  -- enum-told-3
-    (λ c. omega arith)  -- loop-less-2
+    (λ c. search needs) (λ c. omega arith)
     (λ c. let e = sym (c .before .before .compare-field .ensures) ∙ c .enum-told3 .given .1 in
     let l = c .before .before .before .before .loop in
     let s = c .before .before .before .before .before .before .before .before .before in

@@ -1,12 +1,8 @@
 -- `lookup::get` meets its contract: the refusal, or what the search found. Assumes nothing.
-use mathlib.Core.Path.{_≡_, sym, ap, _∙_}
-use Prim.Native.Nat.{_<_}
-use native.Mathlib.Omega.{arith}
-use borrow.Author.Needs.{needs}
+use Rattle.rules.proofs.Prelude.{_≡_, sym, ap, _∙_, _<_, arith, needs, refused, answered}
 use Rattle.names.specs.Search.{seek}
 use Rattle.names.specs.Search.Sought.{here}
 use Rattle.names.proofs.Search.{seek-at}
-use Rattle.rules.proofs.Laws.{refused, answered}
 use Rattle.object.specs.Object.{count, fieldName}
 use Rattle.object.specs.Steps.{MessageOf}
 use Rattle.object.proofs.Laws.{in-region, end-is}
@@ -35,12 +31,9 @@ unfolding lookup
 get-spec =
     tie.close
     (tie.spec
-    (λ c κs. search needs)  -- open-requires
-    (λ c. search needs)  -- enum-known-opening
-    (λ c. search needs)  -- enum-known-opening-2
+    (λ c κs. search needs) (λ c. search needs) (λ c. search needs)
     (λ c κs. rw (c .before .opening2 .given .1) at (c .before .before .before .open .ensures))  -- find-requires
-    (λ c. search needs)  -- enum-told
-    (λ c. search needs)  -- enum-known-found
+    (λ c. search needs) (λ c. search needs)
     (λ c κs. let a = c .before .before .before .before .before .before .before .before .before .before .before .before .args in
     let m = message c in
     (m .layered, field c, omega (arith, in-region (a .dict .now) (a .object .now) (m .passes) _ (field c), end-is (a .object .now))))  -- field-place-requires

@@ -1,7 +1,5 @@
 -- `metadata::check` meets its contract: the numbers of the checked header. Assumes nothing.
-use mathlib.Core.Path.{sym}
-use borrow.Author.Needs.{needs}
-use Rattle.rules.proofs.Laws.{refused, answered}
+use Rattle.rules.proofs.Prelude.{sym, needs, refused, answered}
 use Rattle.metadata.specs.Dictionary.{verdict}
 use Rattle.metadata.proofs.check.Statement.{statement}
 use Rattle.metadata.proofs.check.Tie as tie
@@ -11,9 +9,7 @@ unfolding verdict
 check-spec =
     tie.close
     (tie.spec
-    (λ c κs. search needs)  -- checked-requires
-    (λ c. search needs)  -- enum-known-head
-    (λ c. search needs)  -- enum-known-head-2
+    (λ c κs. search needs) (λ c. search needs) (λ c. search needs)
     (λ c. sym (refused _ (rw (c .before .head .given .1) at (c .before .before .before .checked .ensures))))  -- returns
     (λ c. let h = rw (c .before .head2 .given .1) at (c .before .before .before .checked .ensures) in
     rw (h .0 .count-is, h .0 .end-is) (sym (answered _ (h .1)))))  -- returns-2

@@ -1,11 +1,5 @@
 -- `metadata::check_entries` meets its contract: the loop keeps that all entries before k pass. Assumes nothing.
-use mathlib.Core.Path.{_≡_, sym, _∙_}
-use Prim.Native.Nat.{_≤_, _-_}
-use native.Mathlib.Omega.{arith}
-use borrow.Author.Needs.{needs}
-use Rattle.rules.specs.Rules.{first, each}
-use Rattle.rules.specs.Rules.Found.{pass}
-use Rattle.rules.proofs.Laws.{each-none, each-more, each-stop}
+use Rattle.rules.proofs.Prelude.{_≡_, sym, _∙_, _≤_, _-_, arith, needs, first, each, pass, each-none, each-more, each-stop}
 use Rattle.metadata.specs.Dictionary.{entryRules, count as countOf}
 use Rattle.metadata.specs.Steps.{Reached}
 use Rattle.metadata.proofs.Laws.{uncut-zero}
@@ -40,9 +34,7 @@ check-entries-spec =
     (λ c. let l = c .before .before .before .before .before .loop in
     let refused = rw (c .before .step .given .1) at (c .before .before .before .check-entry .ensures) in
     sym (each-stop _ (l .k) _ (l .inv .2) refused (omega arith)))  -- returns
-    (λ c. search needs)  -- enum-known-step-2
-    (λ c. omega arith)  -- add-k
-    (λ c. omega arith)  -- loop-less
+    (λ c. search needs) (λ c. omega arith) (λ c. omega arith)
     (λ c. let l = c .before .before .before .before .before .loop in
     let passes = rw (c .before .step2 .given .1) at (c .before .before .before .check-entry .ensures) in
     (omega arith, passes .1, each-more _ (l .k) (l .inv .2) ∙ passes .0))  -- loop-again

@@ -1,10 +1,5 @@
 -- `metadata::check_entry` meets its contract: each refusal is the first row that holds. Assumes nothing.
-use mathlib.Core.Path.{_≡_, _∙_}
-use Prim.Native.Nat.{_+_, _-_}
-use native.Mathlib.Omega.{arith}
-use borrow.Author.Needs.{needs}
-use Rattle.rules.specs.Rules.{first, Fails}
-use Rattle.rules.proofs.Laws.{first-at, first-pass, _&_}
+use Rattle.rules.proofs.Prelude.{_≡_, _∙_, _+_, _-_, arith, needs, first, Fails, first-at, first-pass, _&_}
 use Rattle.metadata.specs.Dictionary.{cuts, entryRows, entryRules}
 use Rattle.metadata.proofs.Laws.{entry-is}
 use Rattle.metadata.proofs.check_entry.Statement.{statement}
@@ -25,9 +20,7 @@ pub check-entry-spec : {M : Type 1} → statement M
 check-entry-spec =
     tie.close
     (tie.spec
-    (λ c. search needs)  -- add-offset-at
-    (λ c κs. search needs)  -- offset-at-requires
-    (λ c κs. search needs)  -- out-of-range-requires
+    (λ c. search needs) (λ c κs. search needs) (λ c κs. search needs)
     (λ c. rows (c .before .before) ∙ first-at 0 _ (λ whole. rw (c .if1 .taken) at (c .before .out-of-range .ensures)))  -- returns
     (λ c κs. let range = rw (c .if1 .left) at (c .before .out-of-range .ensures) in omega arith)  -- not-above-requires
     (λ c. let o = c .before .before .before .before in

@@ -1,8 +1,5 @@
 -- `metadata::check_region` meets its contract: the text's table, then the entries'. Assumes nothing.
-use mathlib.Core.Path.{_≡_, sym, ap, _∙_}
-use borrow.Author.Needs.{needs}
-use Rattle.rules.specs.Rules.{first}
-use Rattle.rules.proofs.Laws.{stops, goes}
+use Rattle.rules.proofs.Prelude.{_≡_, sym, ap, _∙_, needs, first, stops, goes}
 use Rattle.metadata.specs.Dictionary.{region, regionRules}
 use Rattle.metadata.specs.Steps.{foundOf}
 use Rattle.metadata.proofs.Laws.{region-is, by-region, text-passed}
@@ -19,12 +16,7 @@ pub check-region-spec : {M : Type 1} → statement M
 check-region-spec =
     tie.close
     (tie.spec
-    (λ c. search needs)  -- sub-region
-    (λ c. search needs)  -- part-region-start
-    (λ c. search needs)  -- part-region-end
-    (λ c κs. search needs)  -- check-text-requires
-    (λ c. search needs)  -- enum-known-text
-    (λ c. search needs)  -- enum-told
+    (λ c. search needs) (λ c. search needs) (λ c. search needs) (λ c κs. search needs) (λ c. search needs) (λ c. search needs)
     (λ c κs. let s = c .before .before .before .before .before in (
       s .pre,
       region-is (s .args .dict .now) _ _ (s .pre .start-is) (s .pre .end-is),

@@ -1,9 +1,5 @@
 -- `metadata::check_text` meets its contract: the one row of its table. Assumes nothing.
-use mathlib.Core.Path.{sym, ap, _∙_}
-use native.Mathlib.Omega.{arith}
-use borrow.Author.Needs.{needs}
-use Rattle.rules.specs.Rules.Found.{stop}
-use Rattle.rules.proofs.Laws.{first-at, first-pass}
+use Rattle.rules.proofs.Prelude.{sym, ap, _∙_, arith, needs, stop, first-at, first-pass}
 use Rattle.metadata.proofs.check_text.Statement.{statement}
 use Rattle.metadata.proofs.check_text.Tie as tie
 

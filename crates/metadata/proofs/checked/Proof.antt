@@ -1,6 +1,5 @@
 -- `metadata::checked` meets its contract: the header's checks, then those of the region. Assumes nothing.
-use mathlib.Core.Path.{sym, ap, _∙_}
-use borrow.Author.Needs.{needs}
+use Rattle.rules.proofs.Prelude.{sym, ap, _∙_, needs}
 use Rattle.metadata.specs.Steps.{foundOf}
 use Rattle.metadata.proofs.Laws.{by-head}
 use Rattle.metadata.proofs.checked.Statement.{statement}
@@ -10,12 +9,9 @@ pub checked-spec : {M : Type 1} → statement M
 checked-spec =
     tie.close
     (tie.spec
-    (λ c κs. search needs)  -- read-header-requires
-    (λ c. search needs)  -- enum-known-head
-    (λ c. search needs)  -- enum-known-head-2
+    (λ c κs. search needs) (λ c. search needs) (λ c. search needs)
     (λ c κs. rw (c .before .head2 .given .1) at (c .before .before .before .read-header .ensures))  -- check-region-requires
-    (λ c. search needs)  -- enum-known-rest
-    (λ c. search needs)  -- enum-told
+    (λ c. search needs) (λ c. search needs)
     (λ c. by-head _ (rw (c .before .head .given .1) at (c .before .before .before .read-header .ensures)))  -- returns
     (λ c. sym (c .before .before .before .check-region .ensures) ∙ ap foundOf (c .before .rest .given .1))  -- returns-2
     (λ c. let h = c .before .before .before .before in (

@@ -1,7 +1,5 @@
 -- `metadata::end_of` meets its contract: the last offset, after the start. Assumes nothing.
-use mathlib.Core.Path.{ap}
-use native.Mathlib.Omega.{arith}
-use borrow.Author.Needs.{needs}
+use Rattle.rules.proofs.Prelude.{ap, arith, needs}
 use Rattle.metadata.specs.Dictionary.{end, offset}
 use Rattle.metadata.proofs.end_of.Statement.{statement}
 use Rattle.metadata.proofs.end_of.Tie as tie
@@ -11,7 +9,6 @@ unfolding end
 end-of-spec =
     tie.close
     (tie.spec
-    (λ c κs. search needs)  -- offset-at-requires
-    (λ c. search needs)  -- add-result
+    (λ c κs. search needs) (λ c. search needs)
     (λ c. let s = c .before .before .before in
     omega (arith, ap (offset (s .args .dict .now)) (s .pre .0 .count-is))))  -- returns

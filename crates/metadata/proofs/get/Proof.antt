@@ -1,9 +1,5 @@
 -- `metadata::get` meets its contract: the dictionary's refusal, then 31, then the span. Assumes nothing.
-use mathlib.Core.Path.{sym, _∙_}
-use Prim.Native.Nat.{_≤_, _<_}
-use native.Mathlib.Omega.{arith}
-use borrow.Author.Needs.{needs}
-use Rattle.rules.proofs.Laws.{refused, answered, stops, goes, first-at, first-pass}
+use Rattle.rules.proofs.Prelude.{sym, _∙_, _≤_, _<_, arith, needs, refused, answered, stops, goes, first-at, first-pass}
 use Rattle.metadata.specs.Dictionary.{count, nameAt}
 use Rattle.metadata.proofs.get.Statement.{statement}
 use Rattle.metadata.proofs.get.Tie as tie
@@ -13,9 +9,7 @@ unfolding nameAt
 get-spec =
     tie.close
     (tie.spec
-    (λ c κs. search needs)  -- checked-requires
-    (λ c. search needs)  -- enum-known-head
-    (λ c. search needs)  -- enum-known-head-2
+    (λ c κs. search needs) (λ c. search needs) (λ c. search needs)
     (λ c. let m = c .before .before .before in
     let h = rw (m .head2 .given .1) at (m .before .before .checked .ensures) in
     let beyond : count (m .before .before .before .before .args .dict .now) ≤ m .before .before .before .before .args .i = omega arith in

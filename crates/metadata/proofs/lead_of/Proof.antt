@@ -1,6 +1,5 @@
 -- `metadata::lead_of` meets its contract: each number is read off the one byte. Assumes nothing.
-use native.Mathlib.Omega.{arith}
-use borrow.Author.Needs.{needs}
+use Rattle.rules.proofs.Prelude.{arith, needs}
 use Rattle.metadata.specs.Dictionary.{version, sorted, width}
 use Rattle.metadata.proofs.lead_of.Statement.{statement}
 use Rattle.metadata.proofs.lead_of.Tie as tie
@@ -10,8 +9,6 @@ unfolding version sorted width
 lead-of-spec =
     tie.close
     (tie.spec
-    (λ c. search needs)  -- shared-slice-read-wide
-    (λ c κs. search needs)  -- wide-requires
-    (λ c. search needs)  -- add-t10
+    (λ c. search needs) (λ c κs. search needs) (λ c. search needs)
     (λ c. let e = c .wide .ensures .0 in
     record { version-is = rw e; sorted-is = rw e; width-is = rw e; some = omega arith; few = omega arith }))  -- returns

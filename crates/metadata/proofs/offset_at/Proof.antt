@@ -1,8 +1,5 @@
 -- `metadata::offset_at` meets its contract: the header holds the offset. Assumes nothing.
-use mathlib.Core.Path.{_∙_}
-use Prim.Native.Nat.{_+_, _*_, _≤_}
-use native.Mathlib.Omega.{arith}
-use borrow.Author.Needs.{needs}
+use Rattle.rules.proofs.Prelude.{_∙_, _+_, _*_, _≤_, arith, needs}
 use Rattle.metadata.specs.Dictionary.{offset, start}
 use Rattle.metadata.proofs.Laws.{offset-inside}
 use Rattle.metadata.proofs.offset_at.Statement.{statement}

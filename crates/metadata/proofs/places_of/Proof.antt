@@ -1,8 +1,5 @@
 -- `metadata::places_of` meets its contract: a width of at most four keeps the sum within 64 bits. Assumes nothing.
-use Prim.Native.Nat.{_+_}
-use native.Mathlib.Nat.{mul-le-mul-right}
-use native.Mathlib.Omega.{arith}
-use borrow.Author.Needs.{needs}
+use Rattle.rules.proofs.Prelude.{_+_, mul-le-mul-right, arith, needs}
 use Rattle.metadata.specs.Dictionary.{count, start}
 use Rattle.metadata.proofs.places_of.Statement.{statement}
 use Rattle.metadata.proofs.places_of.Tie as tie
@@ -12,9 +9,7 @@ unfolding count start
 places-of-spec =
     tie.close
     (tie.spec
-    (λ c κs. search needs)  -- unpack-u32-requires
-    (λ c. search needs)  -- add-t4
-    (λ c. search needs)  -- add-t5
+    (λ c κs. search needs) (λ c. search needs) (λ c. search needs)
     (λ c. omega (arith, mul-le-mul-right (c .unpack-u32 .result + 1) (c .before .before .pre .2)))  -- mul-t6
     (λ c. omega (arith, mul-le-mul-right (c .unpack-u32 .result + 1) (c .before .before .pre .2)))  -- add-t7
     (λ c. let e = c .unpack-u32 .ensures .is in

@@ -1,9 +1,7 @@
 -- `metadata::read_header` meets its contract: each refusal is the first row that holds. This is the place where the limits are opened.
 -- Assumes nothing.
-use native.Mathlib.Omega.{arith}
-use Rattle.rules.proofs.Laws.{first-at}
+use Rattle.rules.proofs.Prelude.{arith, first-at, needs}
 use Rattle.metadata.specs.Limits.{limit, u32Max}
-use borrow.Author.Needs.{needs}
 use Rattle.metadata.proofs.read_header.Statement.{statement}
 use Rattle.metadata.proofs.read_header.Tie as tie
 

@@ -1,8 +1,7 @@
 -- `metadata::span_of` meets its contract: a checked dictionary's offsets do not fall and stay in the region. Assumes nothing.
-use native.Mathlib.Omega.{arith}
+use Rattle.rules.proofs.Prelude.{arith, needs}
 use Rattle.metadata.proofs.Laws.{end-is, region-length, name-part}
 use Rattle.metadata.proofs.Means.{good}
-use borrow.Author.Needs.{needs}
 use Rattle.metadata.proofs.span_of.Statement.{statement}
 use Rattle.metadata.proofs.span_of.Tie as tie
 
@@ -10,11 +9,7 @@ pub span-of-spec : {M : Type 1} → statement M
 span-of-spec =
     tie.close
     (tie.spec
-    (λ c κs. search needs)  -- offset-at-requires
-    (λ c. search needs)  -- add-t7
-    (λ c. search needs)  -- add-offset-at
-    (λ c κs. search needs)  -- offset-at-requires-2
-    (λ c. search needs)  -- add-t10
+    (λ c κs. search needs) (λ c. search needs) (λ c. search needs) (λ c κs. search needs) (λ c. search needs)
     (λ c. let s = c .before .before .before in
     let d = s .args .dict .now in
     let i = s .args .i in

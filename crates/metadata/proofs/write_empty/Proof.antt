@@ -1,10 +1,5 @@
 -- `metadata::write_empty` meets its contract: three bytes are set, or none. Assumes nothing.
-use mathlib.Core.Path.{sym, _∙_}
-use Prim.Native.Nat.{_≤_}
-use native.Mathlib.Omega.{arith}
-use borrow.Author.Needs.{needs}
-use lib.ListN.{length, length-set}
-use lib.Seq.{sets-eq}
+use Rattle.rules.proofs.Prelude.{sym, _∙_, _≤_, arith, needs, length, length-set, sets-eq}
 use Rattle.metadata.specs.Dictionary.{emptyBytes}
 use Rattle.metadata.proofs.Says.{too-small, enough}
 use Rattle.metadata.proofs.write_empty.Statement.{statement}
@@ -15,13 +10,9 @@ write-empty-spec =
     tie.close
     (tie.spec
     (λ c. let small = too-small _ (c .if1 .taken) in record { answers = sym (small .0); leaves = sym (small .1) })  -- returns
-    (λ c. search needs)  -- element-copy-out-room
-    (λ c. search needs)  -- slice-write-room
-    (λ c. search needs)  -- element-copy-out-room-2
+    (λ c. search needs) (λ c. search needs) (λ c. search needs)
     (λ c. simp length-set (omega arith))  -- slice-write-room-2
-    (λ c. search needs)  -- element-copy-out-room-3
-    (λ c. search needs)  -- slice-write-room-3
-    (λ c. search needs)  -- same-length
+    (λ c. search needs) (λ c. search needs) (λ c. search needs)
     (λ c. let room = c .before .before .before .before .before .args .room .now in
     let three : 3 ≤ length room = omega arith in
     let full = enough room three in

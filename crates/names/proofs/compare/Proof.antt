@@ -22,14 +22,12 @@ compare-spec =
     μ-loop
     (λ c κs. tt)  -- least-requires
     (λ c. (omega arith, refl))  -- loop-holds
-    (λ c. omega arith)  -- shared-slice-read-x
-    (λ c. omega arith)  -- shared-slice-read-y
+    (λ c. omega arith) (λ c. omega arith)
     (λ c. let h = c .before .before .before .before .before in let a = h .before .before .before .before .args in
     sym (h .loop .inv .1 ∙ compare-below (a .a .now) (a .b .now) (h .loop .i) (omega arith) (omega arith) (omega arith)))  -- returns
     (λ c. let h = c .before .before .before .before .before in let a = h .before .before .before .before .args in
     sym (h .loop .inv .1 ∙ compare-above (a .a .now) (a .b .now) (h .loop .i) (omega arith) (omega arith) (omega arith)))  -- returns-2
-    (λ c. omega arith)  -- add-i
-    (λ c. omega arith)  -- loop-less
+    (λ c. omega arith) (λ c. omega arith)
     (λ c. let h = c .before .before .before .before in let a = h .before .before .before .before .args in
     (omega arith, h .loop .inv .1 ∙ compare-next (a .a .now) (a .b .now) (h .loop .i) (omega arith) (omega arith) (omega arith) (omega arith)))  -- loop-again
     (λ c. let h = c .before .before in let a = h .before .before .before .before .args in

@@ -9,10 +9,7 @@ unfolding below
 is-below-spec =
     tie.close
     (tie.spec
-    (λ c κs. search needs)  -- compare-requires
-    (λ c. search needs)  -- enum-told
-    (λ c. search needs)  -- enum-told-2
-    (λ c. search needs)  -- enum-told-3
+    (λ c κs. search needs) (λ c. search needs) (λ c. search needs) (λ c. search needs)
     (λ c. rw (← c .before .before .compare .ensures, c .enum-told .given .1))  -- returns
     (λ c. rw (← c .before .before .compare .ensures, c .enum-told2 .given .1))  -- returns-2
     (λ c. rw (← c .before .before .compare .ensures, c .enum-told3 .given .1)))  -- returns-3

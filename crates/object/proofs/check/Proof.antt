@@ -1,7 +1,5 @@
 -- `object::check` meets its contract: the numbers of the opened layer. Assumes nothing.
-use mathlib.Core.Path.{sym}
-use borrow.Author.Needs.{needs}
-use Rattle.rules.proofs.Laws.{refused, answered}
+use Rattle.rules.proofs.Prelude.{sym, needs, refused, answered}
 use Rattle.object.specs.Object.{verdict}
 use Rattle.object.proofs.check.Statement.{statement}
 use Rattle.object.proofs.check.Tie as tie
@@ -11,9 +9,7 @@ unfolding verdict
 check-spec =
     tie.close
     (tie.spec
-    (λ c κs. search needs)  -- open-requires
-    (λ c. search needs)  -- enum-known-opening
-    (λ c. search needs)  -- enum-known-opening-2
+    (λ c κs. search needs) (λ c. search needs) (λ c. search needs)
     (λ c. sym (refused _ (rw (c .before .opening .given .1) at (c .before .before .before .open .ensures))))  -- returns
     (λ c. let m = rw (c .before .before .opening2 .given .1) at (c .before .before .before .before .open .ensures) in
     rw (m .layered .count-is, m .layered .start-is, m .layered .end-is) (sym (answered _ (m .passes)))))  -- returns-2

@@ -1,6 +1,5 @@
 -- `object::check_fields` meets its contract: over a sorted dictionary the ids tell. Assumes nothing.
-use mathlib.Core.Path.{sym, _∙_}
-use borrow.Author.Needs.{needs}
+use Rattle.rules.proofs.Prelude.{sym, _∙_, needs}
 use Rattle.object.proofs.ByIds.{by-ids}
 use Rattle.object.proofs.check_fields.Statement.{statement}
 use Rattle.object.proofs.check_fields.Tie as tie

@@ -1,11 +1,5 @@
 -- `object::check_ids` meets its contract: the loop keeps that all fields before k pass. Assumes nothing.
-use mathlib.Core.Path.{_≡_, sym, _∙_}
-use Prim.Native.Nat.{_+_, _-_, _≤_, _<_}
-use native.Mathlib.Omega.{arith}
-use borrow.Author.Needs.{needs}
-use Rattle.rules.specs.Rules.{first, each}
-use Rattle.rules.specs.Rules.Found.{pass}
-use Rattle.rules.proofs.Laws.{first-at, first-pass, each-none, each-more, each-stop}
+use Rattle.rules.proofs.Prelude.{_≡_, sym, _∙_, _+_, _-_, _≤_, _<_, arith, needs, first, each, pass, first-at, first-pass, each-none, each-more, each-stop}
 use Rattle.object.specs.Object.{id, count as countOf, idRules}
 use Rattle.object.proofs.check_ids.Statement.{statement}
 use Rattle.object.proofs.check_ids.Tie as tie
@@ -24,9 +18,7 @@ check-ids-spec =
     Inv-loop
     μ-loop
     (λ c. (omega arith, (λ p. absurd (omega arith)), each-none _))  -- loop-holds
-    (λ c κs. omega arith)  -- id-at-requires
-    (λ c κs. search needs)  -- judge-id-requires
-    (λ c. search needs)  -- enum-told
+    (λ c κs. omega arith) (λ c κs. search needs) (λ c. search needs)
     (λ c. let l = c .before .before .before .before .before .loop in
     let a = c .before .before .before .before .before .before .before .args in
     let fault = rw (c .enum-told .given .1) at (c .before .before .judge-id .ensures) in
@@ -39,9 +31,7 @@ check-ids-spec =
     let previous = l .inv .1 (fault .1) in
     let rows = idRules (a .entries) (a .object .now) (l .k) in
     sym (each-stop _ (l .k) _ (l .inv .2) (first-at 1 rows (omega arith, (fault .1, omega arith))) (omega arith)))  -- returns-2
-    (λ c. search needs)  -- enum-told-3
-    (λ c. omega arith)  -- add-k
-    (λ c. omega arith)  -- loop-less
+    (λ c. search needs) (λ c. omega arith) (λ c. omega arith)
     (λ c. let l = c .before .before .before .before .before .loop in
     let a = c .before .before .before .before .before .before .before .args in
     let good = rw (c .enum-told3 .given .1) at (c .before .before .judge-id .ensures) in

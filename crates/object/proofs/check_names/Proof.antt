@@ -1,12 +1,6 @@
 -- `object::check_names` meets its contract: the loop keeps that all fields before k pass, and where the last one's name stands. Assumes nothing.
-use mathlib.Core.Path.{_≡_, sym, _∙_}
-use Prim.Native.Nat.{_+_, _-_, _≤_, _<_}
-use native.Mathlib.Omega.{arith}
-use lib.ListN.{length}
+use Rattle.rules.proofs.Prelude.{_≡_, sym, _∙_, _+_, _-_, _≤_, _<_, arith, length, first, each, pass, first-at, first-pass, each-none, each-more, each-stop}
 use Rattle.part.specs.Part.{part}
-use Rattle.rules.specs.Rules.{first, each}
-use Rattle.rules.specs.Rules.Found.{pass}
-use Rattle.rules.proofs.Laws.{first-at, first-pass, each-none, each-more, each-stop}
 use Rattle.object.specs.Object.{fieldName, count as countOf, nameRules}
 use Rattle.object.proofs.check_names.Statement.{statement}
 use Rattle.object.proofs.check_names.Tie as tie
@@ -44,8 +38,7 @@ check-names-spec =
     let fault = rw (c .if2 .taken) at (c .before .name-not-above .ensures) in
     let rows = nameRules (a .dict .now) (a .object .now) (l .k) in
     sym (each-stop _ (l .k) _ (l .inv .4) (first-at 1 rows (omega arith, (fault .0, rw (← l .inv .3 (fault .0), ← here (c .before .before)) (fault .1)))) (omega arith)))  -- returns-2
-    (λ c. omega arith)  -- add-k
-    (λ c. omega arith)  -- loop-less
+    (λ c. omega arith) (λ c. omega arith)
     (λ c. let l = c .before .before .before .before .before .before .loop in
     let a = c .before .before .before .before .before .before .before .before .before .args in
     let s = c .before .before .span-of .ensures in

@@ -1,10 +1,5 @@
 -- `object::check_offsets` meets its contract: the loop keeps that all fields before k pass. Assumes nothing.
-use mathlib.Core.Path.{_≡_, sym, _∙_}
-use Prim.Native.Nat.{_-_, _≤_}
-use native.Mathlib.Omega.{arith}
-use Rattle.rules.specs.Rules.{first, each}
-use Rattle.rules.specs.Rules.Found.{pass}
-use Rattle.rules.proofs.Laws.{first-at, first-pass, each-none, each-more, each-stop}
+use Rattle.rules.proofs.Prelude.{_≡_, sym, _∙_, _-_, _≤_, arith, first, each, pass, first-at, first-pass, each-none, each-more, each-stop}
 use Rattle.object.specs.Object.{count as countOf, offsetRules}
 use Rattle.object.proofs.Laws.{start-before, end-is}
 use Rattle.object.proofs.check_offsets.Statement.{statement}
@@ -29,8 +24,7 @@ check-offsets-spec =
     (λ c. let l = c .before .before .before .loop in
     let o = c .before .before .before .before .before .before .args .object .now in
     sym (each-stop _ (l .k) _ (l .inv .1) (first-at 0 (offsetRules o (l .k)) (omega (arith, start-before o, end-is o))) (omega arith)))  -- returns
-    (λ c. omega arith)  -- add-k
-    (λ c. omega arith)  -- loop-less
+    (λ c. omega arith) (λ c. omega arith)
     (λ c. let l = c .before .before .before .loop in
     let o = c .before .before .before .before .before .before .args .object .now in
     (omega arith, each-more _ (l .k) (l .inv .1) ∙ first-pass (offsetRules o (l .k)) (omega (arith, start-before o, end-is o), tt)))  -- loop-again

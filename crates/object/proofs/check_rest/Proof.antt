@@ -1,11 +1,5 @@
 -- `object::check_rest` meets its contract: the table of names, then that of offsets. Assumes nothing.
-use mathlib.Core.Path.{_≡_, sym, ap, _∙_}
-use mathlib.Core.List.{List}
-use Prim.Native.Nat.{ℕ}
-use borrow.Author.Needs.{needs}
-use Rattle.rules.specs.Rules.{Found, first, each, Passed}
-use Rattle.rules.specs.Rules.Found.{pass}
-use Rattle.rules.proofs.Laws.{stops, goes}
+use Rattle.rules.proofs.Prelude.{_≡_, sym, ap, _∙_, List, ℕ, needs, Found, first, each, Passed, pass, stops, goes}
 use Rattle.metadata.specs.Dictionary as dictionary
 use Rattle.object.specs.declared.Refusal.{Refusal}
 use Rattle.object.specs.declared.Outcome.{Outcome}
@@ -27,9 +21,6 @@ pub check-rest-spec : {M : Type 1} → statement M
 check-rest-spec =
     tie.close
     (tie.spec
-    (λ c κs. search needs)  -- check-fields-requires
-    (λ c. search needs)  -- enum-known-fields
-    (λ c. search needs)  -- enum-told
-    (λ c κs. search needs)  -- check-offsets-requires
+    (λ c κs. search needs) (λ c. search needs) (λ c. search needs) (λ c κs. search needs)
     (λ c. let s = c .before .before .before .before .before .before in search (needs, stopped _ _ (s .pre .0 .1) (s .pre .1 .passes)))  -- returns
     (λ c. let s = c .before .before .before .before .before .before in search (needs, passed _ _ (s .pre .0 .1) (s .pre .1 .passes))))  -- returns-2

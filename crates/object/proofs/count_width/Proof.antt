@@ -1,6 +1,5 @@
 -- `object::count_width` meets its contract: bit 6 is set or not. Assumes nothing.
-use borrow.Author.Tests.{eq-eqb, ne-eqb}
-use native.Mathlib.Omega.{arith}
+use Rattle.rules.proofs.Prelude.{eq-eqb, ne-eqb, arith}
 use Rattle.object.proofs.count_width.Statement.{statement}
 use Rattle.object.proofs.count_width.Tie as tie
 

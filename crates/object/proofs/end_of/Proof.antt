@@ -1,6 +1,5 @@
 -- `object::end_of` meets its contract: the last offset, after the start. Assumes nothing.
-use native.Mathlib.Omega.{arith}
-use borrow.Author.Needs.{needs}
+use Rattle.rules.proofs.Prelude.{arith, needs}
 use Rattle.object.proofs.Laws.{offsets-before, last-is, end-is}
 use Rattle.object.proofs.end_of.Statement.{statement}
 use Rattle.object.proofs.end_of.Tie as tie

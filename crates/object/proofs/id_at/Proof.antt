@@ -1,8 +1,5 @@
 -- `object::id_at` meets its contract: the header holds the id. Assumes nothing.
-use mathlib.Core.Path.{_∙_}
-use Prim.Native.Nat.{_+_, _*_, _≤_}
-use native.Mathlib.Omega.{arith}
-use lib.ListN.{length}
+use Rattle.rules.proofs.Prelude.{_∙_, _+_, _*_, _≤_, arith, length}
 use Rattle.object.specs.Object.{id}
 use Rattle.object.proofs.Laws.{id-inside, offsets-before}
 use Rattle.object.proofs.id_at.Statement.{statement}

@@ -1,7 +1,5 @@
 -- `object::lead_of` meets its contract: each number is read off the one byte. Assumes nothing.
-use mathlib.Core.Path.{_∙_}
-use native.Mathlib.Omega.{arith}
-use borrow.Author.Needs.{needs}
+use Rattle.rules.proofs.Prelude.{_∙_, arith, needs}
 use Rattle.object.specs.Object.{basicType, offsetWidth, idWidth, countWidth}
 use Rattle.object.proofs.lead_of.Statement.{statement}
 use Rattle.object.proofs.lead_of.Tie as tie
@@ -11,11 +9,7 @@ unfolding basicType offsetWidth idWidth countWidth
 lead-of-spec =
     tie.close
     (tie.spec
-    (λ c. search needs)  -- shared-slice-read-wide
-    (λ c κs. search needs)  -- wide-requires
-    (λ c. search needs)  -- add-t8
-    (λ c. search needs)  -- add-t11
-    (λ c κs. search needs)  -- count-width-requires
+    (λ c. search needs) (λ c κs. search needs) (λ c. search needs) (λ c. search needs) (λ c κs. search needs)
     (λ c. let e = c .before .wide .ensures .0 in
     let w = c .count-width .ensures in
     record {

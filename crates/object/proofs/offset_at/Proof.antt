@@ -1,8 +1,5 @@
 -- `object::offset_at` meets its contract: the header holds the offset. Assumes nothing.
-use mathlib.Core.Path.{_∙_}
-use Prim.Native.Nat.{_+_, _*_, _≤_}
-use native.Mathlib.Omega.{arith}
-use lib.ListN.{length}
+use Rattle.rules.proofs.Prelude.{_∙_, _+_, _*_, _≤_, arith, length}
 use Rattle.object.specs.Object.{offset}
 use Rattle.object.proofs.Laws.{offset-inside}
 use Rattle.object.proofs.offset_at.Statement.{statement}

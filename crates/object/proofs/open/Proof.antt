@@ -8,12 +8,9 @@ pub open-spec : {M : Type 1} → statement M
 open-spec =
     tie.close
     (tie.spec
-    (λ c κs. search needs)  -- checked-requires
-    (λ c. search needs)  -- enum-known-head
-    (λ c. search needs)  -- enum-known-head-2
+    (λ c κs. search needs) (λ c. search needs) (λ c. search needs)
     (λ c κs. rw (c .before .head2 .given .1) at (c .before .before .before .checked .ensures))  -- check-layer-requires
-    (λ c. search needs)  -- enum-known-layer
-    (λ c. search needs)  -- enum-known-layer-2
+    (λ c. search needs) (λ c. search needs)
     (λ c. by-dictionary _ _ (rw (c .before .head .given .1) at (c .before .before .before .checked .ensures)))  -- returns
     (λ c. rw (c .before .layer .given .1) at (c .before .before .before .check-layer .ensures))  -- returns-2
     (λ c. let l = rw (c .before .layer2 .given .1) at (c .before .before .before .check-layer .ensures) in

@@ -1,8 +1,5 @@
 -- `object::places_of` meets its contract: widths of at most four keep the sums within 64 bits. Assumes nothing.
-use Prim.Native.Nat.{_+_}
-use native.Mathlib.Nat.{mul-le-mul-right}
-use native.Mathlib.Omega.{arith}
-use borrow.Author.Needs.{needs}
+use Rattle.rules.proofs.Prelude.{_+_, mul-le-mul-right, arith, needs}
 use Rattle.object.specs.Object.{count, idsStart, offsetsStart, start}
 use Rattle.object.proofs.places_of.Statement.{statement}
 use Rattle.object.proofs.places_of.Tie as tie
@@ -12,8 +9,7 @@ unfolding count idsStart offsetsStart start
 places-of-spec =
     tie.close
     (tie.spec
-    (λ c κs. search needs)  -- unpack-u32-requires
-    (λ c. search needs)  -- add-offsets
+    (λ c κs. search needs) (λ c. search needs)
     (λ c. omega (arith, mul-le-mul-right (c .before .unpack-u32 .result) (c .before .before .before .pre .0 .id-few)))  -- mul-offsets
     (λ c. omega (arith, mul-le-mul-right (c .before .unpack-u32 .result) (c .before .before .before .pre .0 .id-few)))  -- add-offsets-2
     (λ c. search needs)  -- add-t6

@@ -1,7 +1,5 @@
 -- `object::read_header` meets its contract: each refusal is the first row that holds. The limits are opened here. Assumes nothing.
-use native.Mathlib.Omega.{arith}
-use borrow.Author.Needs.{needs}
-use Rattle.rules.proofs.Laws.{first-at}
+use Rattle.rules.proofs.Prelude.{arith, needs, first-at}
 use Rattle.metadata.specs.Limits.{limit, u32Max}
 use Rattle.object.specs.Object.{idsStart}
 use Rattle.object.proofs.read_header.Statement.{statement}

@@ -15,11 +15,7 @@ char-at-spec =
     (λ c. let a = c .before .before .args in sym (char-end (a .at) (a .s .now) (c .if1 .taken)))  -- returns
     (λ c. search needs)  -- shared-slice-read-first
     (λ c. let a = c .before .before .before .before .args in sym (char-plain (a .at) (a .s .now) (omega arith) (c .if2 .taken)))  -- returns-2
-    (λ c κs. search needs)  -- classify-requires
-    (λ c. search needs)  -- enum-told
-    (λ c. search needs)  -- enum-known-lead
-    (λ c. search needs)  -- add-tails
-    (λ c κs. search needs)  -- tails-requires
+    (λ c κs. search needs) (λ c. search needs) (λ c. search needs) (λ c. search needs) (λ c κs. search needs)
     (λ c. let a = c .before .before .before .before .before .before .before .before .before .before .args in
     omega (arith, tails-fit (a .at + 1) (a .s .now) _ _ _ (sym (c .before .tails .ensures) ∙ c .if3 .taken)))  -- add-result
     (λ c. let k = c .before .before in let a = k .before .before .before .before .before .args in

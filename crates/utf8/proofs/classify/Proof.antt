@@ -10,15 +10,8 @@ pub classify-spec : {M : Type 1} → statement M
 classify-spec =
     tie.close
     (tie.spec
-    (λ c κs. search needs)
-    (λ c κs. search needs)
-    (λ c κs. search needs)
-    (λ c κs. search needs)
-    (λ c κs. search needs)
-    (λ c κs. search needs)
-    (λ c κs. search needs)
-    (λ c κs. search needs)
-    (λ c κs. search needs)
+    (λ c κs. search needs) (λ c κs. search needs) (λ c κs. search needs) (λ c κs. search needs) (λ c κs. search needs) (λ c κs. search needs)
+    (λ c κs. search needs) (λ c κs. search needs) (λ c κs. search needs)
     (λ c. c .seq .ensures ∙ sym (lead-is 0xE0 0xE0 _ refl (omega arith) (omega arith)))
     (λ c. c .seq2 .ensures ∙ sym (lead-is 0xED 0xED _ refl (omega arith) (omega arith)))
     (λ c. c .seq3 .ensures ∙ sym (lead-is 0xF0 0xF0 _ refl (omega arith) (omega arith)))

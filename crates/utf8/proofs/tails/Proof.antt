@@ -27,9 +27,7 @@ tails-spec =
     sym (l .inv ∙ tails-low (l .lo) (l .hi) (l .at) (h .before .args .s .now) (l .left) (omega arith) (omega arith) (omega arith)))  -- returns-2
     (λ c. let h = c .before .before .before .before .before in let l = h .loop in
     sym (l .inv ∙ tails-high (l .lo) (l .hi) (l .at) (h .before .args .s .now) (l .left) (omega arith) (omega arith) (omega arith) (omega arith)))  -- returns-3
-    (λ c. omega arith)  -- add-at
-    (λ c. omega arith)  -- sub-left
-    (λ c. omega arith)  -- loop-less
+    (λ c. omega arith) (λ c. omega arith) (λ c. omega arith)
     (λ c. let h = c .before .before .before .before .before in let l = h .loop in
     l .inv ∙ tails-in (l .lo) (l .hi) (l .at) (h .before .args .s .now) (l .left) (omega arith) (omega arith) (omega arith) (omega arith))  -- loop-again
     (λ c. let l = c .before .loop in let e : l .left ≡ 0 = omega arith in sym (l .inv ∙ rw (e, tails-none))))  -- returns-4

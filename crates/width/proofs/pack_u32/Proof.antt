@@ -12,16 +12,11 @@ pub pack-u32-spec : {M : Type 1} → statement M
 pack-u32-spec =
     tie.close
     (tie.spec
-    (λ c. search needs)  -- cast-out
-    (λ c. search needs)  -- slice-write-out
-    (λ c. search needs)  -- cast-out-2
-    (λ c. search needs)  -- add-out
+    (λ c. search needs) (λ c. search needs) (λ c. search needs) (λ c. search needs)
     (λ c. simp length-set (omega arith))  -- slice-write-out-2
-    (λ c. search needs)  -- cast-out-3
-    (λ c. search needs)  -- add-out-2
+    (λ c. search needs) (λ c. search needs)
     (λ c. simp length-set (omega arith))  -- slice-write-out-3
-    (λ c. search needs)  -- cast-out-4
-    (λ c. search needs)  -- add-out-3
+    (λ c. search needs) (λ c. search needs)
     (λ c. simp length-set (omega arith))  -- slice-write-out-4
     (λ c. search needs)  -- same-length
     (λ c. let at = c .args .at in

@@ -25,23 +25,14 @@ pub unpack-u32-spec : {M : Type 1} → statement M
 unpack-u32-spec =
     tie.close
     (tie.spec
-    (λ c. search needs)  -- shared-slice-read-wide
-    (λ c κs. search needs)  -- wide-requires
+    (λ c. search needs) (λ c κs. search needs)
     (λ c. let a = c .before .before .before .before .args in
     record { is = rw (c .if1 .taken) (unpack-first (a .at) (a .s .now) (c .before .wide .ensures .0)); fits = omega arith })  -- returns
-    (λ c. search needs)  -- add-wide
-    (λ c. search needs)  -- shared-slice-read-wide-2
-    (λ c κs. search needs)  -- wide-requires-2
-    (λ c. search needs)  -- mul-two
-    (λ c. search needs)  -- add-two
+    (λ c. search needs) (λ c. search needs) (λ c κs. search needs) (λ c. search needs) (λ c. search needs)
     (λ c. let c1 = c .before .before .before .before in
     let a = c1 .before .before .before .args in
     record { is = rw (c .if2 .taken) (of-two (a .at) (a .s .now) (c1 .wide .ensures .0) (c .before .wide2 .ensures .0)); fits = omega arith })  -- returns-2
-    (λ c. search needs)  -- add-wide-2
-    (λ c. search needs)  -- shared-slice-read-wide-3
-    (λ c κs. search needs)  -- wide-requires-3
-    (λ c. search needs)  -- mul-three
-    (λ c. search needs)  -- add-three
+    (λ c. search needs) (λ c. search needs) (λ c κs. search needs) (λ c. search needs) (λ c. search needs)
     (λ c. let c2 = c .before .before .before .before in
     let c1 = c2 .before .before .before in
     let a = c1 .before .before .before .args in
@@ -49,11 +40,7 @@ unpack-u32-spec =
       is = rw (c .if3 .taken) (of-three (a .at) (a .s .now) (c1 .wide .ensures .0) (c2 .wide2 .ensures .0) (c .before .wide3 .ensures .0));
       fits = omega arith;
     })  -- returns-3
-    (λ c. search needs)  -- add-wide-3
-    (λ c. search needs)  -- shared-slice-read-wide-4
-    (λ c κs. search needs)  -- wide-requires-4
-    (λ c. search needs)  -- mul-result
-    (λ c. search needs)  -- add-result
+    (λ c. search needs) (λ c. search needs) (λ c κs. search needs) (λ c. search needs) (λ c. search needs)
     (λ c. let c3 = c .before .before .before in
     let c2 = c3 .before .before .before in
     let c1 = c2 .before .before .before in

@@ -7,12 +7,7 @@ pub of-lookup-spec : {M : Type 1} → statement M
 of-lookup-spec =
     tie.close
     (tie.spec
-    (λ c. search needs)
-    (λ c κs. search needs)
-    (λ c. search needs)
-    (λ c κs. search needs)
-    (λ c. search needs)
-    (λ c κs. search needs)
+    (λ c. search needs) (λ c κs. search needs) (λ c. search needs) (λ c κs. search needs) (λ c. search needs) (λ c κs. search needs)
     (λ c. rw (c .before .before .l .given .1) (c .of-object-refusal .ensures))
     (λ c. rw (c .before .enum-told .given .1) (c .refusal .ensures))
     (λ c. rw (c .before .before .l2 .given .1) (c .answer .ensures)))

@@ -7,9 +7,6 @@ pub of-verdict-spec : {M : Type 1} → statement M
 of-verdict-spec =
     tie.close
     (tie.spec
-    (λ c. search needs)
-    (λ c κs. search needs)
-    (λ c. search needs)
-    (λ c κs. search needs)
+    (λ c. search needs) (λ c κs. search needs) (λ c. search needs) (λ c κs. search needs)
     (λ c. rw (c .before .before .v .given .1) (c .of-dictionary-refusal .ensures))
     (λ c. rw (c .before .before .v2 .given .1) (c .answer .ensures)))

@@ -1,7 +1,5 @@
 -- `words::write` meets its contract: five words are set, one after another. Assumes nothing.
-use mathlib.Core.Path.{refl, _∙_}
-use borrow.Author.Needs.{needs}
-use lib.Seq.{sets-eq}
+use Rattle.rules.proofs.Prelude.{refl, _∙_, needs, sets-eq}
 use Rattle.width.specs.Width.{bytesOf}
 use Rattle.words.specs.Five.{bytesOfWords}
 use Rattle.words.specs.Steps.{listOf}
@@ -13,13 +11,8 @@ unfolding bytesOf bytesOfWords
 write-spec =
     tie.close
     (tie.spec
-    (λ c. search needs)  -- cast-pack-u32
-    (λ c κs. search needs)  -- pack-u32-requires
-    (λ c κs. search needs)  -- pack-u32-requires-2
-    (λ c κs. search needs)  -- pack-u32-requires-3
-    (λ c κs. search needs)  -- pack-u32-requires-4
-    (λ c κs. search needs)  -- pack-u32-requires-5
-    (λ c. search needs)  -- same-length
+    (λ c. search needs) (λ c κs. search needs) (λ c κs. search needs) (λ c κs. search needs) (λ c κs. search needs) (λ c κs. search needs)
+    (λ c. search needs)
     (λ c. let c5 = c .before .before in
     let c4 = c5 .before .before .before .before in
     let c3 = c4 .before .before .before .before in
