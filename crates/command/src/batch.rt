@@ -114,8 +114,8 @@ fn answer(line: &[u8]) {
     let mut query = [0u8; 65537];
     let mut room = [0u32; 65536];
     let words: &mut [u32] = &mut room;
-    let outcome = ask::case::answer(line, &mut dict, &mut object, &mut query, words);
-    ask::case::write(outcome, words);
+    let outcome = cases::answer(line, &mut dict, &mut object, &mut query, words);
+    cases::write(outcome, words);
     io::write_all(STDOUT_FILENO, b"\n");
 }
 

@@ -34,7 +34,7 @@ fn why(error: i32) {
 fn cannot(path: &[u8]) {
     let error = os::errno();
     io::write_all(STDOUT_FILENO, b"cannot read ");
-    crate::sentences::quoted(path);
+    sentences::quoted(path);
     io::write_all(STDOUT_FILENO, b": ");
     why(error);
 }

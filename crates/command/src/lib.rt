@@ -2,13 +2,9 @@
 // and variant_files.
 mod batch;
 mod files;
-mod sentences;
 
-use libc::STDOUT_FILENO;
-
-fn tell(words: &[u8]) {
-    io::write_all(STDOUT_FILENO, words);
-}
+use sentences::tell;
+use text::Numeral;
 
 // Document 01's D and P: what they hold, and three names looked up.
 fn show() {
@@ -53,19 +49,24 @@ fn check(path: &[u8]) {
     sentences::check_dictionary(&room[0..n]);
 }
 
-fn name(path: &[u8], entry: &[u8]) {
-    let number = ask::text::number(entry);
-    if !number.good {
-        tell(b"N is not a number below 4294967296\n");
-        return;
-    }
+fn name_of(path: &[u8], entry: usize) {
     let mut room = [0u8; 65537];
     let dict = files::load(path, &mut room);
     if !dict.good {
         return;
     }
     let n = dict.len;
-    sentences::name(&room[0..n], number.value);
+    sentences::name(&room[0..n], entry);
+}
+
+fn name(path: &[u8], entry: &[u8]) {
+    let number = text::number(entry);
+    match number {
+        Numeral::Of(i) => name_of(path, i),
+        Numeral::No => {
+            tell(b"N is not a number below 4294967296\n");
+        }
+    }
 }
 
 // What is asked of a dictionary and an object.

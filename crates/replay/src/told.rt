@@ -1,66 +1,31 @@
 // What the Rust says on a line, held against our five numbers:
 //
 //     accepts COUNT END     child COUNT END     at START END     found FIELD START END     absent     refuses NUMBER     refuses -
-ghost use Prim.Native.Nat.{_≤_};
-ghost use lib.ListN.{length};
 use ask::Answer;
-use ask::text::number;
-use ask::text::word;
+use cases::expected::ends;
+use cases::expected::see;
+use text::word;
 
-// A number that stands next, and where the text goes on.
-struct Numeral {
-    good: bool,
-    value: usize,
-    at: usize,
+// Whether the text from `from` on has just these two numbers.
+fn two(text: &[u8], from: usize, first: usize, second: usize) -> bool {
+    let a = see(text, from, first);
+    if !a.same {
+        return false;
+    }
+    let b = see(text, a.next, second);
+    if !b.same {
+        return false;
+    }
+    ends(text, b.next)
 }
 
-fn next(text: &[u8], from: usize) -> Numeral
-    requires { ⌜ from ≤ length (now text) ⌝ }
-    ensures { λ r. ⌜ r .at ≤ length (now (text .entry)) ⌝ }
-{
-    let w = word(text, from);
-    let a = w.start;
-    let e = w.end;
-    let n = number(&text[a..e]);
-    Numeral {
-        good: n.good,
-        value: n.value,
-        at: e,
-    }
-}
-
-// Whether the text has just these two numbers.
-fn two(text: &[u8], first: usize, second: usize) -> bool {
-    let a = next(text, 0);
-    if !a.good {
-        return false;
-    }
-    let b = next(text, a.at);
-    if !b.good {
-        return false;
-    }
-    let end = word(text, b.at);
-    if end.start != end.end {
-        return false;
-    }
-    if a.value != first {
-        return false;
-    }
-    b.value == second
-}
-
-// Whether the text has the number, and after it just the two others.
+// Whether the text has just these three.
 fn three(text: &[u8], first: usize, second: usize, third: usize) -> bool {
-    let a = next(text, 0);
-    if !a.good {
+    let a = see(text, 0, first);
+    if !a.same {
         return false;
     }
-    if a.value != first {
-        return false;
-    }
-    let from = a.at;
-    let n = text.len();
-    two(&text[from..n], second, third)
+    two(text, a.next, second, third)
 }
 
 fn is_zero(a: usize, b: usize, c: usize) -> bool {
@@ -83,11 +48,8 @@ fn refused(text: &[u8], a: Answer) -> bool {
     if check::same(&text[s..e], b"-") {
         return 10 <= a.code;
     }
-    let n = next(text, 0);
-    if !n.good {
-        return false;
-    }
-    n.value == a.code
+    let code = see(text, 0, a.code);
+    code.same
 }
 
 fn accepted(verb: &[u8], rest: &[u8], a: Answer) -> bool {
@@ -95,16 +57,16 @@ fn accepted(verb: &[u8], rest: &[u8], a: Answer) -> bool {
         return false;
     }
     if check::same(verb, b"accepts") {
-        return two(rest, a.number, a.end);
+        return two(rest, 0, a.number, a.end);
     }
     if check::same(verb, b"child") {
-        return two(rest, a.number, a.end);
+        return two(rest, 0, a.number, a.end);
     }
     if check::same(verb, b"at") {
         if a.number != 0 {
             return false;
         }
-        return two(rest, a.start, a.end);
+        return two(rest, 0, a.start, a.end);
     }
     if check::same(verb, b"found") {
         return three(rest, a.number, a.start, a.end);

@@ -1,7 +1,8 @@
 // Runs the commands of stdin, a line each, on the files of data/: what `variant` does with these words as its arguments.
 ghost use Prim.Native.Nat.{_≤_};
-use ask::text::word;
 use libc::STDOUT_FILENO;
+use text::find;
+use text::word;
 
 // 1 for a word, and 0 for none.
 fn counts(start: usize, end: usize) -> usize
@@ -49,7 +50,7 @@ fn act(line: &[u8]) {
 fn run(text: &[u8]) {
     let mut at: usize = 0;
     while at < text.len() {
-        let end = ask::text::find(text, at, b'\n');
+        let end = find(text, at, b'\n');
         io::write_all(STDOUT_FILENO, b"$ variant ");
         io::write_all(STDOUT_FILENO, &text[at..end]);
         io::write_all(STDOUT_FILENO, b"\n");

@@ -3,25 +3,23 @@
 // answers. A line a case: its name, the answer, and whether it is as expected.
 //
 // The vectors of builder.rs and of variant.rs's objects are the bytes that the Rust's builder makes in those examples.
-ghost use Prim.Native.Nat.{_≤_, _<_};
-ghost use lib.ListN.{length};
 use libc::STDOUT_FILENO;
 
+mod report;
 mod special;
-mod tally;
 
-use ask::case::Outcome;
-use ask::text::find;
-use tally::Tally;
+use cases::Outcome;
+use cases::tally::Tally;
+use text::find;
 
 fn judge(t: Tally, want: &[u8], outcome: Outcome, words: &[u32]) -> Tally {
-    ask::case::write(outcome, words);
-    if ask::expected::is(want, outcome, words) {
-        return tally::good(t);
+    cases::write(outcome, words);
+    if cases::expected::is(want, outcome, words) {
+        return report::good(t);
     }
     io::write_all(STDOUT_FILENO, b": NOT as expected:");
     io::write_all(STDOUT_FILENO, want);
-    tally::bad(t)
+    report::bad(t)
 }
 
 fn answer(t: Tally, question: &[u8], want: &[u8]) -> Tally {
@@ -30,13 +28,13 @@ fn answer(t: Tally, question: &[u8], want: &[u8]) -> Tally {
     let mut query = [0u8; 64];
     let mut room = [0u32; 16];
     let words: &mut [u32] = &mut room;
-    let outcome = ask::case::answer(question, &mut dict, &mut object, &mut query, words);
+    let outcome = cases::answer(question, &mut dict, &mut object, &mut query, words);
     judge(t, want, outcome, words)
 }
 
 fn no_case(t: Tally) -> Tally {
     io::write_all(STDOUT_FILENO, b"NOT a line of the table");
-    tally::bad(t)
+    report::bad(t)
 }
 
 // A line of the table, without its end. One that is no case is not as expected.
@@ -58,30 +56,21 @@ fn case(t: Tally, line: &[u8]) -> Tally {
 }
 
 fn run(text: &[u8]) -> Tally {
-    let mut t = tally::none();
+    let mut t = cases::tally::none();
     let mut at: usize = 0;
     while at < text.len() {
         let end = find(text, at, b'\n');
         t = case(t, &text[at..end]);
-        if end < text.len() {
-            at = end + 1;
-        } else {
-            at = end;
+        if end == text.len() {
+            return t;
         }
+        at = end + 1;
     }
     t
 }
 
 fn main() {
-    let path = b"cases";
-    let fd = os::open_read(path);
-    if fd < 0 {
-        os::fail(path);
-        return;
-    }
     let mut text = io::large_buffer();
-    let n = io::read_full(fd, &mut text);
-    libc::close(fd);
-    let t = run(&text[0..n]);
-    tally::close(special::run(t));
+    let n = cases::tally::load(b"cases", &mut text);
+    report::close(special::run(run(&text[0..n])));
 }

@@ -1,7 +1,7 @@
 // The cases that a line of text does not say: rooms, parts, and long inputs.
-use crate::tally::Tally;
-use crate::tally::bytes;
-use crate::tally::number;
+use crate::report::bytes;
+use crate::report::number;
+use cases::tally::Tally;
 use libc::STDOUT_FILENO;
 
 // The empty dictionary into a room: the code, the room after it, and the code of the verdict on that.
@@ -60,7 +60,7 @@ fn as_p(b: u8) -> bool {
         b,
     ];
     let a = ask::lookup(b"\x11\x02\x00\x04\x08flowroll", &p, b"flow");
-    ask::expected::is(b"0 0 8 10 0", ask::case::Outcome::Answered(a), &[0; 1])
+    cases::expected::is(b"0 0 8 10 0", cases::Outcome::Answered(a), &[0; 1])
 }
 
 // How many bytes from 0 on may stand after P.

@@ -19,9 +19,9 @@ write-words-spec =
     μ-loop
     (λ c. search needs)  -- loop-holds
     (λ c. search needs)  -- slice-aggregate-say
-    (λ c. search needs)  -- mul-number
-    (λ c. search needs)  -- shared-slice-read-number
-    (λ c κs. search needs)  -- number-requires
+    (λ c. search needs)  -- mul-wide
+    (λ c. search needs)  -- shared-slice-read-wide
+    (λ c κs. search needs)  -- wide-requires
     (λ c κs. search needs)  -- say-requires
     (λ c. search needs)  -- add-i
     (λ c. search needs)  -- loop-less

@@ -17,15 +17,15 @@ run-spec =
     (tie.spec
     Inv-loop
     μ-loop
+    (λ c κs. search needs)  -- none-requires
     (λ c. search needs)  -- loop-holds
     (λ c κs. search needs)  -- find-requires
     (λ c. search needs)  -- sub-judge
     (λ c. search needs)  -- part-judge-start
     (λ c. search needs)  -- part-judge-end
     (λ c κs. search needs)  -- judge-requires
+    (λ c. search needs)  -- returns
     (λ c. search needs)  -- add-at
     (λ c. search needs)  -- loop-less
     (λ c. search needs)  -- loop-again
-    (λ c. search needs)  -- loop-less-2
-    (λ c. search needs)  -- loop-again-2
-    (λ c. search needs))  -- returns
+    (λ c. search needs))  -- returns-2

@@ -24,9 +24,8 @@ run-spec =
     (λ c. search needs)  -- part-case-start
     (λ c. search needs)  -- part-case-end
     (λ c κs. search needs)  -- case-requires
+    (λ c. search needs)  -- returns
     (λ c. search needs)  -- add-at
     (λ c. search needs)  -- loop-less
     (λ c. search needs)  -- loop-again
-    (λ c. search needs)  -- loop-less-2
-    (λ c. search needs)  -- loop-again-2
-    (λ c. search needs))  -- returns
+    (λ c. search needs))  -- returns-2

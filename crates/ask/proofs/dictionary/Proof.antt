@@ -1,0 +1,19 @@
+-- `ask::dictionary` meets its contract: the strip carries the five numbers whole. Assumes nothing.
+use mathlib.Core.Path.{ap, _∙_}
+use native.Mathlib.Omega.{arith}
+use borrow.Author.Needs.{needs}
+use Rattle.ask.specs.Numbers.{wordsIn}
+use Rattle.ask.proofs.Laws.{dictionary-read}
+use Rattle.ask.proofs.dictionary.Statement.{statement}
+use Rattle.ask.proofs.dictionary.Tie as tie
+
+pub dictionary-spec : {M : Type 1} → statement M
+dictionary-spec =
+    tie.close
+    (tie.spec
+    (λ c. search needs)  -- slice-aggregate-lichenhusk-dictionary
+    (λ c κs. search needs)  -- lichenhusk-dictionary-requires
+    (λ c. search needs)  -- slice-aggregate-read
+    (λ c κs. search needs)  -- read-requires
+    (λ c. let a = c .before .before .before .before .before .before .args in
+    c .read .ensures ∙ ap wordsIn (c .before .before .before .lichenhusk-dictionary .ensures .1) ∙ dictionary-read _ (omega arith) (a .dict .now)))  -- returns

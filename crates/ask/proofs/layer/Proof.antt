@@ -1,0 +1,19 @@
+-- `ask::layer` meets its contract: the strip carries the five numbers whole. Assumes nothing.
+use mathlib.Core.Path.{ap, _∙_}
+use native.Mathlib.Omega.{arith}
+use borrow.Author.Needs.{needs}
+use Rattle.ask.specs.Numbers.{wordsIn}
+use Rattle.ask.proofs.Laws.{layer-read}
+use Rattle.ask.proofs.layer.Statement.{statement}
+use Rattle.ask.proofs.layer.Tie as tie
+
+pub layer-spec : {M : Type 1} → statement M
+layer-spec =
+    tie.close
+    (tie.spec
+    (λ c. search needs)  -- slice-aggregate-lichenhusk-layer
+    (λ c κs. search needs)  -- lichenhusk-layer-requires
+    (λ c. search needs)  -- slice-aggregate-read
+    (λ c κs. search needs)  -- read-requires
+    (λ c. let a = c .before .before .before .before .before .before .before .args in
+    c .read .ensures ∙ ap wordsIn (c .before .before .before .lichenhusk-layer .ensures .1) ∙ layer-read _ (omega arith) (a .dict .now) (a .object .now)))  -- returns

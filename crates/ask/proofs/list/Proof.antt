@@ -1,0 +1,23 @@
+-- `ask::list` meets its contract: the strip carries the five numbers whole. Assumes nothing.
+use mathlib.Core.Path.{ap, _∙_}
+use native.Mathlib.Omega.{arith}
+use borrow.Author.Needs.{needs}
+use Rattle.lichenhusk.specs.Strip.{listAfter}
+use Rattle.ask.specs.Numbers.{wordsIn}
+use Rattle.ask.proofs.Laws.{list-read}
+use Rattle.ask.proofs.list.Statement.{statement}
+use Rattle.ask.proofs.list.Tie as tie
+
+pub list-spec : {M : Type 1} → statement M
+unfolding listAfter
+list-spec =
+    tie.close
+    (tie.spec
+    (λ c. search needs)  -- slice-aggregate-lichenhusk-list
+    (λ c κs. search needs)  -- lichenhusk-list-requires
+    (λ c. search needs)  -- slice-aggregate-read
+    (λ c κs. search needs)  -- read-requires
+    (λ c. search needs)  -- same-length
+    (λ c. let a = c .before .before .before .before .before .before .before .before .before .before .before .args in
+    let told = c .before .before .before .before .before .lichenhusk-list .ensures in
+    (c .read .ensures ∙ ap wordsIn (told .1 .0) ∙ list-read _ (omega arith) (a .dict .now) (a .object .now) (a .words .now), told .1 .1)))  -- returns

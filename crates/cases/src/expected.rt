@@ -1,0 +1,102 @@
+// Whether an answer is the one that a text has, written as `write` writes it.
+use crate::Outcome;
+use ask::Answer;
+use text::Numeral;
+use text::number;
+use text::word;
+
+// Whether the text has the number, and where it goes on.
+pub struct Seen {
+    pub same: bool,
+    pub next: usize,
+}
+
+pub fn see(text: &[u8], from: usize, want: usize) -> Seen {
+    let w = word(text, from);
+    let a = w.start;
+    let e = w.end;
+    let n = number(&text[a..e]);
+    match n {
+        Numeral::Of(value) => Seen {
+            same: value == want,
+            next: e,
+        },
+        Numeral::No => Seen {
+            same: false,
+            next: e,
+        },
+    }
+}
+
+fn see_five(text: &[u8], a: Answer) -> Seen {
+    let code = see(text, 0, a.code);
+    if !code.same {
+        return code;
+    }
+    let number = see(text, code.next, a.number);
+    if !number.same {
+        return number;
+    }
+    let start = see(text, number.next, a.start);
+    if !start.same {
+        return start;
+    }
+    let end = see(text, start.next, a.end);
+    if !end.same {
+        return end;
+    }
+    see(text, end.next, a.place)
+}
+
+// Whether no word is left.
+pub fn ends(text: &[u8], from: usize) -> bool {
+    let w = word(text, from);
+    w.start == w.end
+}
+
+fn answered(text: &[u8], a: Answer) -> bool {
+    let five = see_five(text, a);
+    if !five.same {
+        return false;
+    }
+    ends(text, five.next)
+}
+
+fn listed_words(text: &[u8], from: usize, words: &[u32]) -> bool {
+    let mut at = from;
+    for i in 0..words.len() {
+        let seen = see(text, at, ask::wide(words[i]));
+        if !seen.same {
+            return false;
+        }
+        at = seen.next;
+    }
+    ends(text, at)
+}
+
+// The words that were written: three a field.
+fn listed(text: &[u8], a: Answer, words: &[u32]) -> bool {
+    let five = see_five(text, a);
+    if !five.same {
+        return false;
+    }
+    let colon = word(text, five.next);
+    let p = colon.start;
+    let q = colon.end;
+    if !check::same(&text[p..q], b":") {
+        return false;
+    }
+    if words.len() / 3 < a.number {
+        return false;
+    }
+    let n = 3 * a.number;
+    listed_words(text, q, &words[0..n])
+}
+
+pub fn is(text: &[u8], outcome: Outcome, words: &[u32]) -> bool {
+    match outcome {
+        Outcome::Answered(a) => answered(text, a),
+        Outcome::Listed(a) => listed(text, a, words),
+        Outcome::NoCase(_) => false,
+    }
+}

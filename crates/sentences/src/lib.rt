@@ -1,0 +1,243 @@
+// Each answer as a sentence to standard output: what is here promises safety only.
+ghost use Rattle.object.specs.Steps.{Over};
+use ask::Answer;
+use ask::say;
+use ask::wide;
+use libc::STDOUT_FILENO;
+
+pub fn tell(words: &[u8]) -> bool {
+    io::write_all(STDOUT_FILENO, words)
+}
+
+// A byte of a name. What would end the quotes or reach a terminal as a control is written `\xNN`.
+fn letter(b: u8) {
+    match b {
+        0..=31 | b'"' | b'\\' | 127 => {
+            tell(b"\\x");
+            io::print_hex(STDOUT_FILENO, width::wide(b) as u64, 2);
+        }
+        _ => {
+            tell(&[b]);
+        }
+    }
+}
+
+pub fn quoted(name: &[u8]) {
+    tell(b"\"");
+    for i in 0..name.len() {
+        letter(name[i]);
+    }
+    tell(b"\"");
+}
+
+fn meaning_of_dictionary(code: usize) -> bool {
+    match code {
+        10 => tell(b"the dictionary is longer than 65536 bytes"),
+        11 => tell(b"the dictionary is empty"),
+        12 => tell(b"the dictionary's version is not 1"),
+        13 => tell(b"the dictionary is cut short"),
+        14 => tell(b"a sum in the dictionary is above the u32 range"),
+        15 => tell(b"the dictionary's first offset is not 0"),
+        16 => tell(b"not UTF-8"),
+        17 => tell(b"its offsets fall, pass the value region or cut a character"),
+        18 => tell(b"the dictionary is sorted, and it is not above the one before"),
+        _ => tell(b"the dictionary has no such entry"),
+    }
+}
+
+fn meaning_of_object(code: usize) -> bool {
+    match code {
+        20 => tell(b"the object is longer than 65536 bytes"),
+        21 => tell(b"the object is empty"),
+        22 => tell(b"the basic type is not 2, that of an object"),
+        23 => tell(b"the object is cut short"),
+        24 => tell(b"a sum in the object is above the u32 range"),
+        25 => tell(b"its id is no entry of the dictionary"),
+        26 => tell(b"its name is not above the one before"),
+        27 => tell(b"its offset is above the value region's length"),
+        _ => tell(b"the listing has more words than there is room for"),
+    }
+}
+
+fn place(a: Answer) {
+    let code = a.code;
+    match code {
+        16 => {
+            say(b" at byte ", a.place);
+            tell(b" of the value region");
+        }
+        17 | 18 => say(b" at entry ", a.place),
+        25 | 26 | 27 => say(b" at field ", a.place),
+        _ => {}
+    }
+}
+
+fn is_object(code: usize) -> bool {
+    match code {
+        20..=27 | 41 => true,
+        _ => false,
+    }
+}
+
+fn refused(a: Answer) {
+    say(b"refused ", a.code);
+    place(a);
+    tell(b": ");
+    if is_object(a.code) {
+        meaning_of_object(a.code);
+    } else {
+        meaning_of_dictionary(a.code);
+    }
+    tell(b"\n");
+}
+
+fn counted(n: usize, one: &[u8], more: &[u8]) {
+    say(b"accepted: ", n);
+    if n == 1 {
+        tell(one);
+    } else {
+        tell(more);
+    }
+}
+
+pub fn check_dictionary(dict: &[u8]) {
+    let a = ask::dictionary(dict);
+    if a.code != 0 {
+        refused(a);
+        return;
+    }
+    counted(a.number, b" name", b" names");
+    say(b", the end at byte ", a.end);
+    tell(b"\n");
+}
+
+fn accepted(a: Answer) {
+    counted(a.number, b" field", b" fields");
+    say(b", the value region from byte ", a.start);
+    say(b" to byte ", a.end);
+    tell(b"\n");
+}
+
+pub fn check_object(dict: &[u8], object: &[u8]) {
+    let a = ask::layer(dict, object);
+    if a.code != 0 {
+        refused(a);
+        return;
+    }
+    accepted(a);
+}
+
+// The part of `s` that an answer gives.
+fn quoted_part(s: &[u8], a: Answer) {
+    let start = a.start;
+    let end = a.end;
+    if s.len() < end {
+        return;
+    }
+    if end < start {
+        return;
+    }
+    quoted(&s[start..end]);
+}
+
+pub fn name(dict: &[u8], entry: usize) {
+    let a = ask::name(dict, entry);
+    if a.code != 0 {
+        refused(a);
+        return;
+    }
+    say(b"entry ", entry);
+    say(b" is at bytes ", a.start);
+    say(b" to ", a.end);
+    tell(b": ");
+    quoted_part(dict, a);
+    tell(b"\n");
+}
+
+// The first bytes of a value.
+fn start_of(value: &[u8]) {
+    if value.len() == 0 {
+        tell(b" none");
+        return;
+    }
+    if value.len() <= 16 {
+        ask::write_hex(value);
+        return;
+    }
+    ask::write_hex(&value[0..16]);
+    tell(b" ..");
+}
+
+pub fn find(dict: &[u8], object: &[u8], name: &[u8]) {
+    let a = ask::lookup(dict, object, name);
+    if a.code == 1 {
+        tell(b"absent\n");
+        return;
+    }
+    if a.code != 0 {
+        refused(a);
+        return;
+    }
+    say(b"found: field ", a.number);
+    say(b", its value from byte ", a.start);
+    say(b" to byte ", a.end);
+    tell(b":");
+    start_of(lookup::child(dict, object, name));
+    tell(b"\n");
+}
+
+// A field of a listing over a dictionary that was checked: nothing is checked again.
+fn field(dict: &[u8], h: metadata::Header, id: usize, start: usize, span: usize)
+    requires { ⌜ Over (now dict) h ⌝ }
+{
+    tell(b"  ");
+    if id < h.count {
+        let name = metadata::span_of(dict, h, id);
+        let a = name.start;
+        let e = name.end;
+        quoted(&dict[a..e]);
+    }
+    say(b": id ", id);
+    say(b", start ", start);
+    say(b", span ", span);
+    tell(b"\n");
+}
+
+// The fields of a listing, three words a field.
+fn fields(dict: &[u8], words: &[u32]) {
+    let head = metadata::checked(dict);
+    match head {
+        metadata::Head::Refused(_) => {}
+        metadata::Head::Good(h) => {
+            let mut at: usize = 0;
+            while 3 <= words.len() - at {
+                field(
+                    dict,
+                    h,
+                    wide(words[at]),
+                    wide(words[at + 1]),
+                    wide(words[at + 2]),
+                );
+                at += 3;
+            }
+        }
+    }
+}
+
+// Room for the most fields that 65,536 bytes can hold.
+pub fn list(dict: &[u8], object: &[u8]) {
+    let mut room = [0u32; 65536];
+    let words: &mut [u32] = &mut room;
+    let a = ask::list(dict, object, words);
+    if a.code != 0 {
+        refused(a);
+        return;
+    }
+    accepted(a);
+    if 21845 < a.number {
+        return;
+    }
+    let n = 3 * a.number;
+    let filled = &words[..];
+    fields(dict, &filled[0..n]);
+}

@@ -1,0 +1,47 @@
+// Each case's line to standard output, and the tally.
+use cases::tally::Tally;
+use cases::tally::with;
+use libc::STDOUT_FILENO;
+
+// Ends the line of a case that is as expected.
+pub fn good(t: Tally) -> Tally {
+    io::write_all(STDOUT_FILENO, b": as expected\n");
+    with(t, true)
+}
+
+// Ends the line of any other.
+pub fn bad(t: Tally) -> Tally {
+    io::write_all(STDOUT_FILENO, b"\n");
+    with(t, false)
+}
+
+// A case whose answer is a number.
+pub fn number(t: Tally, case: &[u8], got: usize, want: usize) -> Tally {
+    io::write_all(STDOUT_FILENO, case);
+    ask::say(b": ", got);
+    if got == want {
+        return good(t);
+    }
+    ask::say(b": NOT as expected: ", want);
+    bad(t)
+}
+
+// A case whose answer is bytes.
+pub fn bytes(t: Tally, case: &[u8], got: &[u8], want: &[u8]) -> Tally {
+    io::write_all(STDOUT_FILENO, case);
+    ask::say(b": ", got.len());
+    io::write_all(STDOUT_FILENO, b" bytes");
+    ask::write_hex(got);
+    if check::same(got, want) {
+        return good(t);
+    }
+    io::write_all(STDOUT_FILENO, b": NOT as expected:");
+    ask::write_hex(want);
+    bad(t)
+}
+
+pub fn close(t: Tally) {
+    ask::say(b"", t.cases);
+    ask::say(b" cases, ", t.wrong);
+    io::write_all(STDOUT_FILENO, b" not as expected\n");
+}
