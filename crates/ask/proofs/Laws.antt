@@ -9,8 +9,12 @@ use Rattle.rules.specs.Rules.{Answer}
 use Rattle.rules.specs.Rules.Answer.{gives}
 use Rattle.metadata.specs.Dictionary as dictionary
 use Rattle.object.specs.Object as object
-use Rattle.lichenhusk.specs.Strip.{fieldWords, dictionaryWords, nameWords, lookupWords, layerWords, listWords, verdictWords, nameAtWords, stripAfter}
-use Rattle.lichenhusk.proofs.Carries.{Fits, reads-back, dictionary-fits, name-fits, layer-fits, lookup-fits, list-fits}
+use Rattle.lookup.specs.ByName.{lookup}
+use Rattle.listing.specs.Words.{listed}
+use Rattle.words.specs.Five.{fieldWords, dictionaryWords, nameWords}
+use Rattle.lichenhusk.specs.Strip.{lookupWords, layerWords, listWords, verdictWords, nameAtWords, stripAfter}
+use Rattle.lichenhusk.proofs.Carries.{Fits, reads-back}
+use Rattle.lichenhusk.proofs.Tells.{dictionary-said, name-said, layer-said, lookup-said, list-said}
 use Rattle.ask.specs.Numbers.{wordsIn}
 
 module _ (strip : List ℕ) (enough : 20 ≤ length strip) where
@@ -32,17 +36,17 @@ module _ (strip : List ℕ) (enough : 20 ≤ length strip) where
   -- of each call
   module _ (d : List ℕ) where
     pub dictionary-read : wordsIn (stripAfter strip (verdictWords d)) ≡ verdictWords d
-    dictionary-read = of-verdict (dictionary.verdict d) (dictionary-fits d)
+    dictionary-read = of-verdict (dictionary.verdict d) (dictionary-said d .0)
 
     pub name-read : (i : ℕ) → wordsIn (stripAfter strip (nameAtWords d i)) ≡ nameAtWords d i
-    name-read i = of-name (dictionary.nameAt d i) (name-fits d i)
+    name-read i = of-name (dictionary.nameAt d i) (name-said d i .0)
 
     module _ (o : List ℕ) where
       pub layer-read : wordsIn (stripAfter strip (layerWords d o)) ≡ layerWords d o
-      layer-read = of-fields (object.verdict d o) (layer-fits d o)
+      layer-read = of-fields (object.verdict d o) (layer-said d o .0)
 
       pub lookup-read : (q : List ℕ) → wordsIn (stripAfter strip (lookupWords d o q)) ≡ lookupWords d o q
-      lookup-read q = of-fields (object.lookup d o q) (lookup-fits d o q)
+      lookup-read q = of-fields (lookup d o q) (lookup-said d o q .0)
 
       pub list-read : (w : List ℕ) → wordsIn (stripAfter strip (listWords d o w)) ≡ listWords d o w
-      list-read w = of-fields (object.listed d o w) (list-fits d o w)
+      list-read w = of-fields (listed d o w) (list-said d o w .0)

@@ -3,7 +3,7 @@
 ghost use mathlib.Core.Path.{_≡_};
 ghost use Prim.Native.Nat.{_≤_};
 ghost use lib.ListN.{length};
-ghost use Rattle.object.specs.Object.{wordsAfter};
+ghost use Rattle.listing.specs.Words.{wordsAfter};
 ghost use Rattle.lichenhusk.specs.Strip.{lookupWords, layerWords, listWords, verdictWords, nameAtWords};
 ghost use Rattle.ask.specs.Numbers.{numbersOf, wordsIn};
 use libc::STDOUT_FILENO;

@@ -16,4 +16,4 @@ dictionary-spec =
     (λ c. search needs)  -- slice-aggregate-read
     (λ c κs. search needs)  -- read-requires
     (λ c. let a = c .before .before .before .before .before .before .args in
-    c .read .ensures ∙ ap wordsIn (c .before .before .before .lichenhusk-dictionary .ensures .1) ∙ dictionary-read _ (omega arith) (a .dict .now)))  -- returns
+    c .read .ensures ∙ ap wordsIn (c .before .before .before .lichenhusk-dictionary .ensures .leaves) ∙ dictionary-read _ (omega arith) (a .dict .now)))  -- returns

@@ -16,4 +16,4 @@ layer-spec =
     (λ c. search needs)  -- slice-aggregate-read
     (λ c κs. search needs)  -- read-requires
     (λ c. let a = c .before .before .before .before .before .before .before .args in
-    c .read .ensures ∙ ap wordsIn (c .before .before .before .lichenhusk-layer .ensures .1) ∙ layer-read _ (omega arith) (a .dict .now) (a .object .now)))  -- returns
+    c .read .ensures ∙ ap wordsIn (c .before .before .before .lichenhusk-layer .ensures .leaves) ∙ layer-read _ (omega arith) (a .dict .now) (a .object .now)))  -- returns

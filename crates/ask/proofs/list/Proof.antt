@@ -20,4 +20,4 @@ list-spec =
     (λ c. search needs)  -- same-length
     (λ c. let a = c .before .before .before .before .before .before .before .before .before .before .before .args in
     let told = c .before .before .before .before .before .lichenhusk-list .ensures in
-    (c .read .ensures ∙ ap wordsIn (told .1 .0) ∙ list-read _ (omega arith) (a .dict .now) (a .object .now) (a .words .now), told .1 .1)))  -- returns
+    (c .read .ensures ∙ ap wordsIn (told .strip-left .leaves) ∙ list-read _ (omega arith) (a .dict .now) (a .object .now) (a .words .now), told .words-left)))  -- returns

@@ -16,4 +16,4 @@ lookup-spec =
     (λ c. search needs)  -- slice-aggregate-read
     (λ c κs. search needs)  -- read-requires
     (λ c. let a = c .before .before .before .before .before .before .before .before .args in
-    c .read .ensures ∙ ap wordsIn (c .before .before .before .lichenhusk-lookup .ensures .1) ∙ lookup-read _ (omega arith) (a .dict .now) (a .object .now) (a .name .now)))  -- returns
+    c .read .ensures ∙ ap wordsIn (c .before .before .before .lichenhusk-lookup .ensures .leaves) ∙ lookup-read _ (omega arith) (a .dict .now) (a .object .now) (a .name .now)))  -- returns

@@ -16,4 +16,4 @@ name-spec =
     (λ c. search needs)  -- slice-aggregate-read
     (λ c κs. search needs)  -- read-requires
     (λ c. let a = c .before .before .before .before .before .before .args in
-    c .read .ensures ∙ ap wordsIn (c .before .before .before .lichenhusk-name .ensures .1) ∙ name-read _ (omega arith) (a .dict .now) (a .entry)))  -- returns
+    c .read .ensures ∙ ap wordsIn (c .before .before .before .lichenhusk-name .ensures .leaves) ∙ name-read _ (omega arith) (a .dict .now) (a .entry)))  -- returns
