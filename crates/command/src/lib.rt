@@ -1,8 +1,8 @@
 // The command `variant`: what it does with its arguments. The programs over it are variant and, for tests, variant_batch, variant_find
 // and variant_files.
 mod batch;
-mod files;
 
+use sentences::files;
 use sentences::tell;
 use text::Numeral;
 

@@ -1,5 +1,8 @@
 // Each answer as a sentence to standard output: what is here promises safety only.
 ghost use Rattle.object.specs.Steps.{Over};
+
+pub mod files;
+
 use ask::Answer;
 use ask::say;
 use ask::wide;

@@ -1,7 +1,7 @@
 // A file's bytes, or why it cannot be read.
 ghost use Prim.Native.Nat.{_≤_};
 ghost use lib.ListN.{length};
-use libc::STDOUT_FILENO;
+use crate::tell;
 
 pub struct File {
     pub good: bool,
@@ -19,23 +19,23 @@ fn bad() -> File
 
 fn why(error: i32) {
     if error == libc::ENOENT {
-        io::write_all(STDOUT_FILENO, b"there is no such file\n");
+        tell(b"there is no such file\n");
     } else if error == libc::EACCES {
-        io::write_all(STDOUT_FILENO, b"that is not allowed\n");
+        tell(b"that is not allowed\n");
     } else if error == libc::EISDIR {
-        io::write_all(STDOUT_FILENO, b"it is a folder\n");
+        tell(b"it is a folder\n");
     } else if error == libc::ENAMETOOLONG {
-        io::write_all(STDOUT_FILENO, b"its name is too long\n");
+        tell(b"its name is too long\n");
     } else {
-        io::write_all(STDOUT_FILENO, b"the system refuses\n");
+        tell(b"the system refuses\n");
     }
 }
 
 fn cannot(path: &[u8]) {
     let error = os::errno();
-    io::write_all(STDOUT_FILENO, b"cannot read ");
-    sentences::quoted(path);
-    io::write_all(STDOUT_FILENO, b": ");
+    tell(b"cannot read ");
+    crate::quoted(path);
+    tell(b": ");
     why(error);
 }
 
