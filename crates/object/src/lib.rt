@@ -249,10 +249,8 @@ fn name_not_above(dict: &[u8], k: usize, p: usize, q: usize, a: usize, e: usize)
     if k == 0 {
         return false;
     }
-    if names::is_below(&dict[p..q], &dict[a..e]) {
-        return false;
-    }
-    true
+    let rises = names::is_below(&dict[p..q], &dict[a..e]);
+    !rises
 }
 
 // Checks 25 and 26 by names, field by field.

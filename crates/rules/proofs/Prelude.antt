@@ -1,6 +1,6 @@
 -- What the proofs of the crates above use most, in one place: equations, lists, numbers and tactics, each as the library has it, and the
 -- language and the laws of rules. Assumes nothing.
-pub use mathlib.Core.Bool.{Bool, false, _||_, true, cond, _&&_}
+pub use mathlib.Core.Bool.{Bool, true, false, not, cond, _&&_, _||_}
 pub use mathlib.Core.List.{List, [], _∷_, _++_, append-assoc, map}
 pub use mathlib.Core.Logic.{_↔_, _⊎_, ⊎-elim}
 pub use mathlib.Core.Logic._⊎_.{inl, inr}
@@ -15,12 +15,12 @@ pub use borrow.Author.Tests.{ne-eqb, lt-ltb, le-ltb, not-true, not-false, eq-eqb
 pub use lib.Dec.{eqb, ltb, leb}
 pub use lib.ListN.{length, length-append, List·getD-append, take, drop, length-take, take-append-drop, getD, length-set, set, length-drop, replicate}
 pub use lib.Seq.{take-all, take-add, sets-eq, getD-append-add, sets, take-at, drop-append-add, drop-drop}
-pub use Rattle.rules.specs.Rules.{accept, Found, Kept, Stays, codeOf, StopsAs, RefusedAs, Passed, Fails, Test, Answer, refuse}
+pub use Rattle.rules.specs.Rules.{accept, Found, Kept, Stays, codeOf, StopsAs, RefusedAs, Passed, Fails, Says, Test, Answer, refuse}
 unfoldable pub use Rattle.rules.specs.Rules.{first, each, _orElse_, _otherwise_}
 pub use Rattle.rules.specs.Rules.Answer.{gives}
 pub use Rattle.rules.specs.Rules.Found.{pass, stop}
 pub use Rattle.rules.specs.Rules.Rule.{_⇒_at_}
-pub use Rattle.rules.specs.Rules.Test.{_≤?_, _or_, _<?_}
+pub use Rattle.rules.specs.Rules.Test.{_<?_, _≤?_, isn't, _and_, _or_}
 pub use Rattle.rules.proofs.Laws.{let-through, answered, each-pass, _&_, passed, both-pass, each-same, kept, same-stays, stays-then}
 pub use Rattle.rules.proofs.Laws.{stays-answer, cut-stops, stops-first, refused-as, Meant, meant-then, meant-stop, rows-mean, each-means}
 pub use Rattle.rules.proofs.Laws.{first-pass, stops, goes, unless, false-true, never, Cases, by-rows, by-each, meant-map, meant-pass, refused}
