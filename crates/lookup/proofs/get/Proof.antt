@@ -43,5 +43,5 @@ get-spec =
     sym (answered _ (m .passes) ∙ ap (found o) (sym (c .before .before .find .ensures) ∙ ap soughtOf (c .enum-told .given .1))))  -- returns-2
     (λ c. let l = c .before in
     let place = c .field-place .ensures in
-    rw (place .0, place .1)
-    (sym (answered _ (message l .passes) ∙ ap (found (l .before .before .before .before .before .before .before .before .before .before .before .before .args .object .now)) (sought l)))))  -- returns-3
+    let o = l .before .before .before .before .before .before .before .before .before .before .before .before .args .object .now in
+    rw (place .0, place .1) (sym (answered _ (message l .passes) ∙ ap (found o) (sought l)))))  -- returns-3
