@@ -3,6 +3,7 @@
 #
 #   run.sh host       the host's tests
 #   run.sh installed  the header's example, with what make install puts into a prefix
+#   run.sh original   builds the original, which needs no archive
 #   run.sh short      the comparison's own tests, and a comparison that takes less than a minute
 #   run.sh long       millions of inputs
 #   run.sh replay N   answers of the Rust's, N lines at most, on standard output
@@ -73,6 +74,11 @@ case $task in
     done
     installed
     ;;
+  original)
+    has_cargo
+    has_source
+    quietly build --release -p parquet-variant
+    ;;
   short)
     has_cargo
     has_source
@@ -96,7 +102,7 @@ case $task in
     target/measured/bench
     ;;
   *)
-    sed -n '2,12p' run.sh | cut -c3- >&2
+    sed -n '2,13p' run.sh | cut -c3- >&2
     exit 2
     ;;
 esac
