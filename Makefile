@@ -1,9 +1,13 @@
 # make run: the main job on an embedded sample. make test: everything that must pass.
 # make install PREFIX=..: the header, the archive and lichenhusk.pc, for C.
 
-.PHONY: run test host original archive install differential bench
+.PHONY: run test host tested compared original archive install differential bench
 
 PREFIX = /usr/local
+
+# Crates and wrong versions at a time, as rt takes where there are four processors. It waits for a
+# whole batch: with four to a batch two cores stand still less.
+export RT_JOBS ?= 4
 
 # The command, proved and built, on document 01's dictionary and object.
 run:
@@ -18,8 +22,13 @@ test: host
 # what it needs is there. The archive is proved by one core while the other builds the original.
 host:
 	@$(MAKE) --no-print-directory -j2 archive original
+	@$(MAKE) --no-print-directory -j2 -O tested compared
+
+tested:
 	@rust/run.sh host
 	@rust/run.sh installed
+
+compared:
 	@rust/run.sh short
 
 # What the comparison needs besides the archive; what is missing or fails, the comparison says.

@@ -141,15 +141,13 @@ fn read_header(object: &[u8]) -> Head
     if metadata::U32_MAX < places.offsets {
         return Head::Refused(Refusal::Sum);
     }
-    let start = places.start;
-    if metadata::U32_MAX < start {
+    if metadata::U32_MAX < places.start {
         return Head::Refused(Refusal::Sum);
     }
-    if object.len() < start {
+    if object.len() < places.start {
         return Head::Refused(Refusal::Short);
     }
-    let offset_width = lead.offset_width;
-    let end = end_of(object, offset_width, start);
+    let end = end_of(object, lead.offset_width, places.start);
     if metadata::U32_MAX < end {
         return Head::Refused(Refusal::Sum);
     }
@@ -158,11 +156,11 @@ fn read_header(object: &[u8]) -> Head
     }
     Head::Good(Layer {
         id_width: lead.id_width,
-        offset_width,
+        offset_width: lead.offset_width,
         count: places.count,
         ids: 1 + lead.count_width,
         offsets: places.offsets,
-        start,
+        start: places.start,
         end,
     })
 }
