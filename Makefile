@@ -5,10 +5,6 @@
 
 PREFIX = /usr/local
 
-# Crates and wrong versions at a time, as rt takes where there are four processors. It waits for a
-# whole batch: with four to a batch two cores stand still less.
-export RT_JOBS ?= 4
-
 # The command, proved and built, on document 01's dictionary and object.
 run:
 	@rt check variant >/dev/null || { rt check variant; exit 1; }
