@@ -4,6 +4,7 @@ use mathlib.Core.Path.{_≡_, refl, sym, ap}
 use mathlib.Core.Bool.{Bool, true, false, cond, _&&_}
 use mathlib.Core.List.{List, [], _∷_, _++_}
 use Prim.Native.Nat.{ℕ, zero, suc, _+_, _≤_, _<_, _-_, zero-le, suc-le-suc}
+use native.Mathlib.Decide.{decLt}
 use native.Mathlib.Numerals.{add-one}
 use native.Mathlib.Omega.{arith}
 use borrow.Author.Tests.{leb-true, le-leb, lt-leb}
@@ -17,6 +18,7 @@ use Rattle.utf8.specs.declared.Lead.the-variants.{Bad, Seq}
 use Rattle.utf8.specs.Utf8.{Tails, Char, Text, leadOf, tailsOf, charBy, char, textUpTo}
 use Rattle.utf8.specs.Utf8.Tails.{end, next}
 use Rattle.utf8.specs.Utf8.Char.{char-of}
+use Rattle.utf8.specs.Steps.{Reached, AtMost}
 use Rattle.utf8.proofs.Table.{and-true, lead-is}
 
 -- The bytes after it.
@@ -138,10 +140,7 @@ pub text-longest : (s : List ℕ) (n : ℕ) → n ≤ length s → Text (take n 
 unfolding textUpTo
 text-longest s n h r = upTo-longest Char char chars s n h r
 
--- What a loop from character to character goes by. It has come to i: a text stands before i, and what is left decides how far it goes on.
-abbrev pub Reached : List ℕ → ℕ → Type 0
-Reached s i = (i ≤ length s) × (textUpTo s ≡ i + textUpTo (drop i s))
-
+-- What a loop over a text goes by: it stops where no character starts, and goes on by one that does, or by a whole run of bytes below 80.
 pub text-stop : (s : List ℕ) (i : ℕ) → Reached s i → char (drop i s) ≡ 0 → i ≡ textUpTo s
 unfolding textUpTo
 text-stop s i r q = upTo-end Char char chars s i (r .1) q
@@ -149,6 +148,25 @@ text-stop s i r q = upTo-end Char char chars s i (r .1) q
 pub text-go : (s : List ℕ) (i n : ℕ) → Reached s i → n ≡ char (drop i s) → (n ≡ 0 → ⊥) → Reached s (i + n)
 unfolding textUpTo
 text-go s i n r q p = upTo-next Char char chars s i n (r .0) (r .1) q p
+
+pub text-run : (s : List ℕ) (i j : ℕ) → Reached s i → i ≤ j → j ≤ length s → AtMost s i j 0x7F → Reached s j
+text-run s i zero r p q h = let e : i ≡ 0 = omega arith in rw e at r
+text-run s i (suc j) r p q h =
+    go (decLt j i) (λ u. text-run s i j r (omega arith) (omega arith) (λ k v w. h k v (omega arith)))
+  where
+    go : Dec (j < i) → ((j < i → ⊥) → Reached s j) → Reached s (suc j)
+    go (yes u) f = let e : suc j ≡ i = omega arith in rw e r
+    go (no u) f =
+        let e : suc j ≡ j + 1 = omega arith in
+        rw e (text-go s j 1 (f u) (sym (char-plain j s (omega arith) (omega (arith, h j (omega arith) (omega arith))))) (λ z. omega arith))
+
+-- one byte more under a bound
+pub at-most-more : (s : List ℕ) (i j m m′ : ℕ) → AtMost s i j m → m ≤ m′ → getD s j 0 ≤ m′ → AtMost s i (j + 1) m′
+at-most-more s i j m m′ h p q k u v = go (decLt k j)
+  where
+    go : Dec (k < j) → getD s k 0 ≤ m′
+    go (yes w) = omega (arith, h k u w)
+    go (no w) = let e : k ≡ j = omega arith in rw e q
 
 -- a text is passed whole, and only a text is
 pub text-whole : (s : List ℕ) → Text s → textUpTo s ≡ length s

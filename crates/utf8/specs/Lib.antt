@@ -1,2 +1,3 @@
 pub mod Utf8
+pub mod Steps
 pub mod Promises

@@ -1,8 +1,16 @@
 // Well-formed UTF-8 by RFC 3629 (utils.rs: string_from_slice, which calls the library's from_utf8).
 ghost use mathlib.Core.Path.{_≡_};
-ghost use lib.ListN.{drop};
+ghost use Prim.Native.Nat.{_+_, _≤_};
+ghost use lib.ListN.{length, drop};
 ghost use Rattle.utf8.specs.Utf8.{leadOf, tailsOf, char};
+ghost use Rattle.utf8.specs.Steps.{Reached, Went, AtMost};
 ghost use Rattle.utf8.specs.Promises.{ValidLenPromise};
+
+// How many bytes a stride has.
+const STRIDE: usize = 32;
+
+// So many bytes are passed character by character before strides are tried again: text of short plain runs pays for few of them.
+const STRETCH: usize = 64;
 
 // What a first byte asks: `rest` bytes after it, the first of those from `lo` to `hi`.
 enum Lead {
@@ -86,17 +94,92 @@ fn char_at(s: &[u8], at: usize) -> usize
     }
 }
 
-// The length of the longest well-formed text that `s` starts with. Each turn passes one character or more: a turn that passes several
-// keeps this promise too.
-pub fn valid_len(s: &[u8]) -> usize
-    ensures { λ r. ⌜ ValidLenPromise (now (s .entry)) r ⌝ }
+// The larger of two bytes.
+fn larger(a: u8, b: u8) -> u8
+    ensures { λ r. ⌜ (a ≤ r) × (b ≤ r) ⌝ }
 {
-    let mut at = 0;
-    loop {
+    if a < b { b } else { a }
+}
+
+// The largest of the `count` bytes at `from`. All are read before one is judged, so that the compiler can take many in one step.
+fn largest(s: &[u8], from: usize, count: usize) -> u8
+    requires { ⌜ from + count ≤ length (now s) ⌝ }
+    ensures { λ r. ⌜ AtMost (now (s .entry)) from (from + count) r ⌝ }
+{
+    let mut most = 0;
+    let mut k = 0;
+    while k < count {
+        most = larger(most, s[from + k]);
+        k += 1;
+    }
+    most
+}
+
+// Passes bytes below 0x80 in strides, as long as a whole stride has no other. What is left at the end, the text's last stride has.
+fn strides(s: &[u8], from: usize) -> usize
+    requires { ⌜ Reached (now s) from ⌝ }
+    ensures { λ r. ⌜ Went (now (s .entry)) from r ⌝ }
+{
+    let mut at = from;
+    while STRIDE <= s.len() - at {
+        if 0x80 <= largest(s, at, STRIDE) {
+            return at;
+        }
+        at += STRIDE;
+    }
+    if s.len() < STRIDE {
+        return at;
+    }
+    if 0x80 <= largest(s, s.len() - STRIDE, STRIDE) {
+        return at;
+    }
+    s.len()
+}
+
+// Where a stretch from `from` ends: after its bytes, or with the text.
+fn stretch_end(s: &[u8], from: usize) -> usize
+    requires { ⌜ from ≤ length (now s) ⌝ }
+{
+    if s.len() - from <= STRETCH {
+        s.len()
+    } else {
+        from + STRETCH
+    }
+}
+
+// Passes a stretch character by character, as long as one starts.
+fn stretch(s: &[u8], from: usize) -> usize
+    requires { ⌜ Reached (now s) from ⌝ }
+    ensures { λ r. ⌜ Went (now (s .entry)) from r ⌝ }
+{
+    let end = stretch_end(s, from);
+    let mut at = from;
+    while at < end {
         let n = char_at(s, at);
         if n == 0 {
             return at;
         }
         at += n;
     }
+    at
+}
+
+// The length of the longest well-formed text that `s` starts with. Strides are tried only where the byte at hand is below 0x80, and where
+// one failed, not again for a stretch.
+pub fn valid_len(s: &[u8]) -> usize
+    ensures { λ r. ⌜ ValidLenPromise (now (s .entry)) r ⌝ }
+{
+    let mut at = 0;
+    while at < s.len() {
+        if s[at] < 0x80 {
+            at = stretch(s, strides(s, at + 1));
+        } else {
+            let longer = char_at(s, at);
+            if longer == 0 {
+                return at;
+            }
+            at += longer;
+        }
+    }
+    at
 }

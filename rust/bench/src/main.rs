@@ -1,13 +1,13 @@
-//! The clock: check and lookup together, ours and the Rust's, in one process.
+//! The clock: check and lookup together, and UTF-8 alone, ours and the Rust's, in one process.
 //!
 //! `cargo run --profile measured -p bench`
 
 mod clock;
 mod rows;
 mod sides;
+mod texts;
 
-use clock::{SAMPLES, medians};
-use sides::prepared;
+use clock::SAMPLES;
 use std::fs;
 use std::process::Command;
 
@@ -22,9 +22,22 @@ Nanoseconds of a call, the median of its samples; the sides take turns within a 
             names, of offsets or of children, all but the last of which ours does
 The ratios are ours to the column before them. Each child is an eight-bit integer.";
 
+/// The same for the second table.
+const TEXT_LEGEND: &str = "\
+UTF-8 alone: a dictionary of one name.
+  ours      lichenhusk::dictionary: the whole check of that dictionary
+  Rust      std::str::from_utf8 of the name's bytes, and nothing else";
+
 fn main() {
     println!("{}", machine());
     println!("recipe: cargo run --profile measured -p bench; {SAMPLES} samples of each side");
+    lookups();
+    texts_alone();
+    println!("\nload after: {}", load());
+}
+
+/// The table of check and lookup together.
+fn lookups() {
     println!("{LEGEND}\n");
     println!(
         "{:<50}{:>7}{:>7}{:>11}{:>11}{:>7}{:>11}{:>11}{:>7}{:>11}{:>7}",
@@ -41,7 +54,7 @@ fn main() {
         "ratio"
     );
     for row in rows::rows() {
-        let [ours, whole, shallow, children] = medians(&prepared(&row));
+        let [ours, whole, shallow, children] = sides::measured(&row);
         let less = whole - children;
         println!(
             "{:<50}{:>7}{:>7}{ours:>11.1}{whole:>11.1}{:>7.2}{children:>11.1}{less:>11.1}{:>7.2}{shallow:>11.1}{:>7.2}",
@@ -53,7 +66,24 @@ fn main() {
             ours / shallow,
         );
     }
-    println!("\nload after: {}", load());
+}
+
+/// The table of UTF-8 alone.
+fn texts_alone() {
+    println!("\n{TEXT_LEGEND}\n");
+    println!(
+        "{:<50}{:>7}{:>18}{:>11}{:>7}",
+        "row", "dict", "ours", "Rust", "ratio"
+    );
+    for text in texts::texts() {
+        let [ours, library] = texts::measured(&text);
+        println!(
+            "{:<50}{:>7}{ours:>18.1}{library:>11.1}{:>7.2}",
+            text.label,
+            text.dict.len(),
+            ours / library,
+        );
+    }
 }
 
 /// The processor, the compiler and what else the machine is doing.

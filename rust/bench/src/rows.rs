@@ -112,9 +112,7 @@ fn increasing(random: &mut Random, count: usize, names: Names) -> Vec<String> {
     let mut all = BTreeSet::new();
     while all.len() < count {
         all.insert(match names {
-            Names::Letters => (0..12)
-                .map(|_| (b'a' + random.below(26) as u8) as char)
-                .collect(),
+            Names::Letters => (0..12).map(|_| letter(random)).collect(),
             Names::Prefixed => format!("{:_<40}{:04}", "station_meter_reading", all.len()),
             Names::TwoByte => (0..6).map(|_| two_byte(random)).collect(),
         });
@@ -122,8 +120,13 @@ fn increasing(random: &mut Random, count: usize, names: Names) -> Vec<String> {
     all.into_iter().collect()
 }
 
+/// A letter from a to z.
+pub fn letter(random: &mut Random) -> char {
+    (b'a' + random.below(26) as u8) as char
+}
+
 /// A letter of the Greek or Cyrillic alphabets.
-fn two_byte(random: &mut Random) -> char {
+pub fn two_byte(random: &mut Random) -> char {
     char::from_u32(0x391 + random.below(0xC0) as u32).unwrap_or('Ω')
 }
 

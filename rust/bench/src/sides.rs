@@ -1,25 +1,32 @@
-//! What is called, on each side.
+//! Check and lookup together: what is called, on each side.
 
+use crate::clock::medians;
 use crate::rows::Row;
 use parquet_variant::{Variant, VariantMetadata, VariantObject};
 use std::hint::black_box;
 
 /// A row, and what the checks of its children need.
-pub struct Prepared<'r> {
+struct Prepared<'r> {
     row: &'r Row,
     metadata: VariantMetadata<'r>,
     starts: Vec<usize>,
 }
 
-/// Something whose time is taken, for a turn of a row.
-pub type Side = fn(&Prepared, usize);
-
-/// The sides, in the order of the table's columns.
-pub const SIDES: [Side; 4] = [ours, whole, shallow, children];
+/// A row's figures, in the order of the sides: ours, the Rust's, the Rust's shallow one, and its
+/// checks of the children.
+pub fn measured(row: &Row) -> [f64; 4] {
+    let prepared = prepared(row);
+    medians([
+        &|turn| ours(&prepared, turn),
+        &|turn| whole(&prepared, turn),
+        &|turn| shallow(&prepared, turn),
+        &|_| children(&prepared),
+    ])
+}
 
 /// Prepares a row, after a look that both sides answer alike: each name that is asked for is
 /// found by both, and in the same bytes, or by none.
-pub fn prepared(row: &Row) -> Prepared<'_> {
+fn prepared(row: &Row) -> Prepared<'_> {
     let metadata = VariantMetadata::try_new(&row.dict).expect("a good dictionary");
     let object = VariantObject::try_new(metadata.clone(), &row.object).expect("a good object");
     for name in &row.names {
@@ -66,7 +73,7 @@ fn shallow(prepared: &Prepared, turn: usize) {
 }
 
 /// The Rust's checks of the children alone.
-fn children(prepared: &Prepared, _: usize) {
+fn children(prepared: &Prepared) {
     let object = black_box(&prepared.row.object);
     for &start in &prepared.starts {
         let metadata = prepared.metadata.clone();
