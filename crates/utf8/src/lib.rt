@@ -6,7 +6,7 @@ ghost use Rattle.utf8.specs.Utf8.{leadOf, tailsOf, char};
 ghost use Rattle.utf8.specs.Steps.{Reached, Went, AtMost};
 ghost use Rattle.utf8.specs.Promises.{ValidLenPromise};
 
-// How many bytes a stride has.
+// How many bytes a stride has. A text with fewer is tried in strides of a quarter.
 const STRIDE: usize = 32;
 
 // So many bytes are passed character by character before strides are tried again: text of short plain runs pays for few of them.
@@ -116,24 +116,40 @@ fn largest(s: &[u8], from: usize, count: usize) -> u8
 }
 
 // Passes bytes below 0x80 in strides, as long as a whole stride has no other. What is left at the end, the text's last stride has.
-fn strides(s: &[u8], from: usize) -> usize
-    requires { ⌜ Reached (now s) from ⌝ }
+fn strides(s: &[u8], from: usize, stride: usize) -> usize
+    requires { ⌜ Reached (now s) from × (1 ≤ stride) ⌝ }
     ensures { λ r. ⌜ Went (now (s .entry)) from r ⌝ }
 {
     let mut at = from;
-    while STRIDE <= s.len() - at {
-        if 0x80 <= largest(s, at, STRIDE) {
+    while stride <= s.len() - at {
+        if 0x80 <= largest(s, at, stride) {
             return at;
         }
-        at += STRIDE;
+        at += stride;
     }
-    if s.len() < STRIDE {
+    if s.len() < stride {
         return at;
     }
-    if 0x80 <= largest(s, s.len() - STRIDE, STRIDE) {
+    if 0x80 <= largest(s, s.len() - stride, stride) {
         return at;
     }
     s.len()
+}
+
+// How far a text that is shorter than a stride is passed at once.
+fn begin(s: &[u8]) -> usize
+    ensures { λ r. ⌜ Reached (now (s .entry)) r ⌝ }
+{
+    if STRIDE <= s.len() {
+        return 0;
+    }
+    if s.len() == 0 {
+        return 0;
+    }
+    if 0x80 <= s[0] {
+        return 0;
+    }
+    strides(s, 0, STRIDE / 4)
 }
 
 // Where a stretch from `from` ends: after its bytes, or with the text.
@@ -169,10 +185,10 @@ fn stretch(s: &[u8], from: usize) -> usize
 pub fn valid_len(s: &[u8]) -> usize
     ensures { λ r. ⌜ ValidLenPromise (now (s .entry)) r ⌝ }
 {
-    let mut at = 0;
+    let mut at = begin(s);
     while at < s.len() {
         if s[at] < 0x80 {
-            at = stretch(s, strides(s, at + 1));
+            at = stretch(s, strides(s, at + 1, STRIDE));
         } else {
             let longer = char_at(s, at);
             if longer == 0 {

@@ -1,8 +1,8 @@
 //! Lichenhusk and the Rust crate that it was ported from, given the same bytes.
 //!
 //! [`compare`] says what must agree; [`ours`] and [`original`] are the two sides; [`fixed`],
-//! [`exhaustive`], [`generate`] and [`damage`] make the inputs; [`run`] goes through them,
-//! counting in a [`tally`], and has [`shrink`] make an input that disagrees as small as it can.
+//! [`exhaustive`], [`long_names`], [`generate`] and [`damage`] make the inputs; [`run`] goes through
+//! them, counting in a [`tally`], and has [`shrink`] make an input that disagrees as small as it can.
 //! [`replay`] writes answers of the Rust's down, to be asked again where it is not at hand.
 
 pub mod compare;
@@ -12,6 +12,7 @@ pub mod exhaustive;
 pub mod faults;
 pub mod fixed;
 pub mod generate;
+pub mod long_names;
 pub mod original;
 pub mod ours;
 pub mod random;

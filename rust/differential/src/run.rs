@@ -7,6 +7,7 @@ use crate::exhaustive::{
 };
 use crate::fixed::{self, SORTED, UNSORTED};
 use crate::generate::good;
+use crate::long_names;
 use crate::ours::Reader;
 use crate::random::Random;
 use crate::shrink::smallest;
@@ -134,6 +135,7 @@ impl<R: Reader> Run<'_, R> {
             "every object of telling bytes, two dictionaries",
             Self::telling_objects,
         )?;
+        self.kind("long names, plain but for a place or two", Self::long_names)?;
         self.kind("generated, and damaged copies", Self::generated)
     }
 
@@ -220,6 +222,10 @@ impl<R: Reader> Run<'_, R> {
                 self.dictionary(dict)
             })
         })
+    }
+
+    fn long_names(&mut self) -> Going {
+        long_names::each(|dict| self.dictionary(dict))
     }
 
     fn every_object(&mut self) -> Going {

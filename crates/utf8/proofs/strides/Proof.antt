@@ -8,10 +8,10 @@ use Rattle.utf8.proofs.strides.Statement.{statement}
 use Rattle.utf8.proofs.strides.Tie as tie
 
 abbrev Inv-loop : tie.InvT-loop
-Inv-loop s from at₀ at = Went s from at
+Inv-loop s from stride at₀ at = Went s from at
 
 abbrev μ-loop : tie.MeasureT-loop
-μ-loop s from at₀ at = length s - at
+μ-loop s from stride at₀ at = length s - at
 
 pub strides-spec : {M : Type 1} → statement M
 strides-spec =
@@ -19,14 +19,14 @@ strides-spec =
     (tie.spec
     Inv-loop
     μ-loop
-    (λ c. (omega arith, c .before .pre))  -- loop-holds
+    (λ c. (omega arith, c .before .pre .0))  -- loop-holds
     (λ c. omega arith)  -- sub
     (λ c κs. omega arith)  -- largest-requires
     (λ c. c .before .before .before .loop .inv)  -- returns
     (λ c. omega arith)  -- add-at
     (λ c. omega arith)  -- loop-less
     (λ c. let h = c .before .before .before in
-    (omega arith, text-run (h .before .before .args .s .now) (h .loop .at) _ (h .loop .inv .1) (omega arith) (omega arith) (λ k p q. omega (arith, c .before .largest .ensures k p q))))  -- loop-again
+    (omega arith, text-run (h .before .before .args .s .now) (h .loop .at) _ (h .loop .inv .1) (omega arith) (omega arith) (λ k p q. omega (arith, c .before .largest .ensures k p (omega arith)))))  -- loop-again
     (λ c. c .before .before .loop .inv)  -- returns-2
     (λ c. omega arith)  -- sub-largest
     (λ c κs. omega arith)  -- largest-requires-2

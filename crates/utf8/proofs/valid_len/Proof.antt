@@ -16,10 +16,10 @@ abbrev μ-loop : tie.MeasureT-loop
 
 -- a character was found: the loop comes to its end
 went : (c : tie.Else2 Inv-loop μ-loop)
-    → Reached (c .before .before .before .before .before .before .before .args .s .now) (c .before .before .before .before .before .loop .at + c .before .char-at .result)
+    → Reached (c .before .before .before .before .before .before .before .before .args .s .now) (c .before .before .before .before .before .loop .at + c .before .char-at .result)
 went c =
     let h = c .before .before .before .before .before in
-    text-go (h .before .before .args .s .now) (h .loop .at) (c .before .char-at .result) (h .loop .inv) (c .before .char-at .ensures) (c .if2 .left)
+    text-go (h .before .before .before .args .s .now) (h .loop .at) (c .before .char-at .result) (h .loop .inv) (c .before .char-at .ensures) (c .if2 .left)
 
 pub valid-len-spec : {M : Type 1} → statement M
 valid-len-spec =
@@ -27,19 +27,20 @@ valid-len-spec =
     (tie.spec
     Inv-loop
     μ-loop
-    (λ c. (omega arith, omega arith))  -- loop-holds
+    (λ c κs. tt)  -- begin-requires
+    (λ c. c .begin .ensures)  -- loop-holds
     (λ c. omega arith)  -- shared-slice-read-if1
     (λ c. omega arith)  -- add-strides
-    (λ c κs. let h = c .before .before .before in let s = h .before .before .args .s .now in
-    text-go s (h .loop .at) 1 (h .loop .inv) (sym (char-plain (h .loop .at) s (omega arith) (c .if1 .taken))) (λ z. omega arith))  -- strides-requires
+    (λ c κs. let h = c .before .before .before in let s = h .before .before .before .args .s .now in
+    (text-go s (h .loop .at) 1 (h .loop .inv) (sym (char-plain (h .loop .at) s (omega arith) (omega arith))) (λ z. omega arith), omega arith))  -- strides-requires
     (λ c κs. c .strides .ensures .1)  -- stretch-requires
     (λ c. omega (arith, c .stretch .ensures, c .before .strides .ensures))  -- loop-less
     (λ c. c .stretch .ensures .1)  -- loop-again
     (λ c κs. tt)  -- char-at-requires
     (λ c. let h = c .before .before .before .before .before in
-    text-stop (h .before .before .args .s .now) (h .loop .at) (h .loop .inv) (sym (c .before .char-at .ensures) ∙ c .if2 .taken))  -- returns
+    text-stop (h .before .before .before .args .s .now) (h .loop .at) (h .loop .inv) (sym (c .before .char-at .ensures) ∙ c .if2 .taken))  -- returns
     (λ c. omega (arith, went c))  -- add-at
     (λ c. omega (arith, went c))  -- loop-less-2
     went  -- loop-again-2
-    (λ c. let h = c .before in let s = h .before .before .args .s .now in
+    (λ c. let h = c .before in let s = h .before .before .before .args .s .now in
     text-stop s (h .loop .at) (h .loop .inv) (char-end (h .loop .at) s (omega arith))))  -- returns-2
