@@ -20,16 +20,13 @@ strides-spec =
     Inv-loop
     μ-loop
     (λ c. (omega arith, c .before .pre .0))  -- loop-holds
-    (λ c. omega arith)  -- sub
-    (λ c κs. omega arith)  -- largest-requires
+    (λ c. omega arith) (λ c κs. omega arith)
     (λ c. c .before .before .before .loop .inv)  -- returns
-    (λ c. omega arith)  -- add-at
-    (λ c. omega arith)  -- loop-less
+    (λ c. omega arith) (λ c. omega arith)
     (λ c. let h = c .before .before .before in
     (omega arith, text-run (h .before .before .args .s .now) (h .loop .at) _ (h .loop .inv .1) (omega arith) (omega arith) (λ k p q. omega (arith, c .before .largest .ensures k p (omega arith)))))  -- loop-again
     (λ c. c .before .before .loop .inv)  -- returns-2
-    (λ c. omega arith)  -- sub-largest
-    (λ c κs. omega arith)  -- largest-requires-2
+    (λ c. omega arith) (λ c κs. omega arith)
     (λ c. c .before .before .before .before .loop .inv)  -- returns-3
     (λ c. let h = c .before .before .before .before in let s = h .before .before .args .s .now in
     (omega arith, text-run s (h .loop .at) (length s) (h .loop .inv .1) (omega arith) (omega arith) (λ k p q. omega (arith, c .before .largest2 .ensures k (omega arith) (omega arith))))))  -- returns-4

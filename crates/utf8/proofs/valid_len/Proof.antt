@@ -29,8 +29,7 @@ valid-len-spec =
     μ-loop
     (λ c κs. tt)  -- begin-requires
     (λ c. c .begin .ensures)  -- loop-holds
-    (λ c. omega arith)  -- shared-slice-read-if1
-    (λ c. omega arith)  -- add-strides
+    (λ c. omega arith) (λ c. omega arith)
     (λ c κs. let h = c .before .before .before in let s = h .before .before .before .args .s .now in
     (text-go s (h .loop .at) 1 (h .loop .inv) (sym (char-plain (h .loop .at) s (omega arith) (omega arith))) (λ z. omega arith), omega arith))  -- strides-requires
     (λ c κs. c .strides .ensures .1)  -- stretch-requires
