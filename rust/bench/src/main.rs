@@ -89,22 +89,29 @@ fn texts_alone() {
 /// The processor, the compiler and what else the machine is doing.
 fn machine() -> String {
     let cpus = fs::read_to_string("/proc/cpuinfo").unwrap_or_default();
-    let model = cpus
-        .lines()
-        .find_map(|line| line.strip_prefix("model name")?.split_once(": "))
-        .map_or("unknown processor", |(_, model)| model);
     let count = cpus
         .lines()
         .filter(|line| line.starts_with("processor"))
         .count();
-    let compiler = Command::new("rustc").arg("--version").output();
-    let compiler = compiler.map_or("unknown rustc".into(), |output| {
-        String::from_utf8_lossy(&output.stdout).trim().to_string()
-    });
+    // On Arm the processor's name is not in that file.
+    let about = cpus + &said(&["lscpu"]).unwrap_or_default();
+    let model = about
+        .lines()
+        .find(|line| line.to_lowercase().starts_with("model name"))
+        .and_then(|line| line.split_once(':'))
+        .map_or("unknown processor", |(_, model)| model.trim());
+    let compiler = said(&["rustc", "--version"]);
+    let compiler = compiler.as_deref().map_or("unknown rustc", str::trim);
     format!(
         "machine: {model}, {count} processors, {compiler}; load before: {}",
         load()
     )
+}
+
+/// What a command says.
+fn said(words: &[&str]) -> Option<String> {
+    let output = Command::new(words[0]).args(&words[1..]).output().ok()?;
+    String::from_utf8(output.stdout).ok()
 }
 
 /// The load averages of one, five and fifteen minutes.
