@@ -140,7 +140,7 @@ pub text-longest : (s : List ℕ) (n : ℕ) → n ≤ length s → Text (take n 
 unfolding textUpTo
 text-longest s n h r = upTo-longest Char char chars s n h r
 
--- What a loop over a text goes by: it stops where no character starts, and goes on by one that does, or by a whole run of bytes below 80.
+-- What a loop over a text goes by: it stops where no character starts, and goes on by one that does.
 pub text-stop : (s : List ℕ) (i : ℕ) → Reached s i → char (drop i s) ≡ 0 → i ≡ textUpTo s
 unfolding textUpTo
 text-stop s i r q = upTo-end Char char chars s i (r .1) q
@@ -149,6 +149,7 @@ pub text-go : (s : List ℕ) (i n : ℕ) → Reached s i → n ≡ char (drop i 
 unfolding textUpTo
 text-go s i n r q p = upTo-next Char char chars s i n (r .0) (r .1) q p
 
+-- And what a stride may do: a run of bytes below 80 at the place reached is passed whole.
 pub text-run : (s : List ℕ) (i j : ℕ) → Reached s i → i ≤ j → j ≤ length s → AtMost s i j 0x7F → Reached s j
 text-run s i zero r p q h = let e : i ≡ 0 = omega arith in rw e at r
 text-run s i (suc j) r p q h =

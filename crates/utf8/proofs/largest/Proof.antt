@@ -21,7 +21,7 @@ largest-spec =
     μ-loop
     (λ c. (omega arith, λ k p q. absurd (omega arith)))  -- loop-holds
     (λ c. omega arith) (λ c. omega arith) (λ c κs. tt) (λ c. omega arith) (λ c. omega arith)
-    (λ c. let h = c .before .before .before in let a = h .before .before .args in
-    let e : a .from + (h .loop .k + 1) ≡ a .from + h .loop .k + 1 = omega arith in
-    (omega arith, rw e (at-most-more (a .s .now) (a .from) (a .from + h .loop .k) (h .loop .most) (c .larger .result) (h .loop .inv .1) (c .larger .ensures .0) (c .larger .ensures .1))))  -- loop-again
+    (λ c. let h = c .before .before .before in let a = h .before .before .args in let l = h .loop in let m = c .larger in
+    let e : a .from + (l .k + 1) ≡ a .from + l .k + 1 = omega arith in
+    (omega arith, rw e (at-most-more (a .s .now) (a .from) (a .from + l .k) (l .most) (m .result) (l .inv .1) (m .ensures .0) (m .ensures .1))))  -- loop-again
     (λ c. let l = c .before .loop in let e : l .k ≡ c .before .before .before .args .count = omega arith in rw e at (l .inv .1)))  -- returns
