@@ -1,8 +1,8 @@
 -- `utf8::strides` meets its contract: each stride is a run of bytes below 80. Assumes nothing.
-use Prim.Native.Nat.{_+_, _-_}
+use Prim.Native.Nat.{_-_}
 use native.Mathlib.Omega.{arith}
 use lib.ListN.{length}
-use Rattle.utf8.specs.Steps.{Went, AtMost}
+use Rattle.utf8.specs.Steps.{Went}
 use Rattle.utf8.proofs.Laws.{text-run}
 use Rattle.utf8.proofs.strides.Statement.{statement}
 use Rattle.utf8.proofs.strides.Tie as tie
@@ -23,12 +23,14 @@ strides-spec =
     (λ c. omega arith) (λ c κs. omega arith)
     (λ c. c .before .before .before .loop .inv)  -- returns
     (λ c. omega arith) (λ c. omega arith)
-    (λ c. let h = c .before .before .before in let a = h .before .before .args in let at = h .loop .at in
-    let plain : AtMost (a .s .now) at (at + a .stride) 0x7F = λ k p q. omega (arith, c .before .largest .ensures k p (omega arith)) in
-    (omega arith, text-run (a .s .now) at (at + a .stride) (h .loop .inv .1) (omega arith) (omega arith) plain))  -- loop-again
+    (λ c. let h = c .before .before .before in let s = h .before .before .args .s .now in let at = h .loop .at in (
+      omega arith,
+      text-run s at _ (h .loop .inv .1) (omega arith) (omega arith) (λ k p q. omega (arith, c .before .largest .ensures k p (omega arith))),
+    ))  -- loop-again
     (λ c. c .before .before .loop .inv)  -- returns-2
     (λ c. omega arith) (λ c κs. omega arith)
     (λ c. c .before .before .before .before .loop .inv)  -- returns-3
-    (λ c. let h = c .before .before .before .before in let s = h .before .before .args .s .now in let at = h .loop .at in
-    let plain : AtMost s at (length s) 0x7F = λ k p q. omega (arith, c .before .largest2 .ensures k (omega arith) (omega arith)) in
-    (omega arith, text-run s at (length s) (h .loop .inv .1) (omega arith) (omega arith) plain)))  -- returns-4
+    (λ c. let h = c .before .before .before .before in let s = h .before .before .args .s .now in let at = h .loop .at in (
+      omega arith,
+      text-run s at _ (h .loop .inv .1) (omega arith) (omega arith) (λ k p q. omega (arith, c .before .largest2 .ensures k (omega arith) (omega arith))),
+    )))  -- returns-4
