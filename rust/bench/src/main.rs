@@ -40,7 +40,7 @@ fn main() {
 fn lookups() {
     println!("{LEGEND}\n");
     println!(
-        "{:<50}{:>7}{:>7}{:>11}{:>11}{:>7}{:>11}{:>11}{:>7}{:>11}{:>7}",
+        "{:<55}{:>7}{:>7}{:>11}{:>11}{:>7}{:>11}{:>11}{:>7}{:>11}{:>7}",
         "row",
         "dict",
         "object",
@@ -57,7 +57,7 @@ fn lookups() {
         let [ours, whole, shallow, children] = sides::measured(&row);
         let less = whole - children;
         println!(
-            "{:<50}{:>7}{:>7}{ours:>11.1}{whole:>11.1}{:>7.2}{children:>11.1}{less:>11.1}{:>7.2}{shallow:>11.1}{:>7.2}",
+            "{:<55}{:>7}{:>7}{ours:>11.1}{whole:>11.1}{:>7.2}{children:>11.1}{less:>11.1}{:>7.2}{shallow:>11.1}{:>7.2}",
             row.label,
             row.dict.len(),
             row.object.len(),
@@ -72,13 +72,13 @@ fn lookups() {
 fn texts_alone() {
     println!("\n{TEXT_LEGEND}\n");
     println!(
-        "{:<50}{:>7}{:>18}{:>11}{:>7}",
+        "{:<55}{:>7}{:>18}{:>11}{:>7}",
         "row", "dict", "ours", "Rust", "ratio"
     );
     for text in texts::texts() {
         let [ours, library] = texts::measured(&text);
         println!(
-            "{:<50}{:>7}{ours:>18.1}{library:>11.1}{:>7.2}",
+            "{:<55}{:>7}{ours:>18.1}{library:>11.1}{:>7.2}",
             text.label,
             text.dict.len(),
             ours / library,

@@ -25,6 +25,10 @@ enum Names {
     Prefixed,
     /// Six characters of two bytes at random.
     TwoByte,
+    /// A letter and a character of two bytes, four times.
+    InTurn,
+    /// Four characters of three bytes at random.
+    ThreeByte,
 }
 
 /// Which entries the object has as fields.
@@ -58,6 +62,20 @@ pub fn rows() -> Vec<Row> {
             "4,000 names, 1 field, 2-byte characters",
             4000,
             TwoByte,
+            Middle,
+            Present,
+        ),
+        (
+            "4,000 names, 1 field, 1 and 2 bytes in turn",
+            4000,
+            InTurn,
+            Middle,
+            Present,
+        ),
+        (
+            "4,000 names, 1 field, 3-byte characters",
+            4000,
+            ThreeByte,
             Middle,
             Present,
         ),
@@ -115,6 +133,8 @@ fn increasing(random: &mut Random, count: usize, names: Names) -> Vec<String> {
             Names::Letters => (0..12).map(|_| letter(random)).collect(),
             Names::Prefixed => format!("{:_<40}{:04}", "station_meter_reading", all.len()),
             Names::TwoByte => (0..6).map(|_| two_byte(random)).collect(),
+            Names::InTurn => (0..4).map(|_| in_turn(random)).collect(),
+            Names::ThreeByte => (0..4).map(|_| three_byte(random)).collect(),
         });
     }
     all.into_iter().collect()
@@ -128,6 +148,16 @@ pub fn letter(random: &mut Random) -> char {
 /// A letter of the Greek or Cyrillic alphabets.
 pub fn two_byte(random: &mut Random) -> char {
     char::from_u32(0x391 + random.below(0xC0) as u32).unwrap_or('Ω')
+}
+
+/// A letter, and one of the Greek or Cyrillic alphabets.
+fn in_turn(random: &mut Random) -> String {
+    format!("{}{}", letter(random), two_byte(random))
+}
+
+/// One of the signs from 4E00 to 9FFF.
+pub fn three_byte(random: &mut Random) -> char {
+    char::from_u32(0x4E00 + random.below(0x5200) as u32).unwrap_or('水')
 }
 
 fn dictionary_of(names: &[String], entries: &[usize], sorted: bool) -> Vec<u8> {

@@ -1,7 +1,7 @@
 //! UTF-8 alone: a dictionary of one long name, against the library's check of that name's bytes.
 
 use crate::clock::medians;
-use crate::rows::{letter, two_byte};
+use crate::rows::{letter, three_byte, two_byte};
 use differential::encode::{DictionaryShape, dictionary};
 use differential::random::Random;
 use std::hint::black_box;
@@ -82,8 +82,6 @@ fn short_runs(random: &mut Random) -> String {
     format!("{}{}", letters(random, count), two_byte(random))
 }
 
-/// One of the signs from 4E00 to 9FFF.
 fn three_bytes(random: &mut Random) -> String {
-    let sign = char::from_u32(0x4E00 + random.below(0x5200) as u32);
-    sign.unwrap_or('水').into()
+    three_byte(random).into()
 }
