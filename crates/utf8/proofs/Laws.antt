@@ -35,7 +35,7 @@ unfolding tailsOf
 tails-complete end s = refl
 tails-complete {l} {h} (next {b = b} p q r) s = rw (le-leb l b p, le-leb b h q) (tails-complete r s)
 
-false-true : {A : Type 0} → false ≡ true → A
+pub false-true : {A : Type 0} → false ≡ true → A
 false-true e = let z : _≡_ {A = ℕ} 0 1 = cc in absurd (omega arith)
 
 tails-sound : (l h n : ℕ) (s : List ℕ) → tailsOf l h n s ≡ true → (n ≤ length s) × Tails l h n (take n s)
@@ -161,13 +161,17 @@ text-run s i (suc j) r p q h =
         let e : suc j ≡ j + 1 = omega arith in
         rw e (text-go s j 1 (f u) (sym (char-plain j s (omega arith) (omega (arith, h j (omega arith) (omega arith))))) (λ z. omega arith))
 
--- one byte more under a bound
-pub at-most-more : (s : List ℕ) (i j m m′ : ℕ) → AtMost s i j m → m ≤ m′ → getD s j 0 ≤ m′ → AtMost s i (j + 1) m′
-at-most-more s i j m m′ h p q k u v = go (decLt k j)
+-- more bytes under a bound, and one more
+pub at-most-join : (s : List ℕ) (i j n m m′ r : ℕ) → AtMost s i j m → AtMost s j n m′ → m ≤ r → m′ ≤ r → AtMost s i n r
+at-most-join s i j n m m′ r h g p q k u v = go (decLt k j)
   where
-    go : Dec (k < j) → getD s k 0 ≤ m′
+    go : Dec (k < j) → getD s k 0 ≤ r
     go (yes w) = omega (arith, h k u w)
-    go (no w) = let e : k ≡ j = omega arith in rw e q
+    go (no w) = omega (arith, g k (omega arith) v)
+
+pub at-most-more : (s : List ℕ) (i j m m′ : ℕ) → AtMost s i j m → m ≤ m′ → getD s j 0 ≤ m′ → AtMost s i (j + 1) m′
+at-most-more s i j m m′ h p q =
+    at-most-join s i j (j + 1) m m′ m′ h (λ k u v. let e : k ≡ j = omega arith in rw e q) p (omega arith)
 
 -- a text is passed whole, and only a text is
 pub text-whole : (s : List ℕ) → Text s → textUpTo s ≡ length s

@@ -1,4 +1,5 @@
 pub mod Table
 pub mod Laws
+pub mod Local
 pub mod Bounds
 pub mod Pinned

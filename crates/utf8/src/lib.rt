@@ -1,16 +1,17 @@
 // Well-formed UTF-8 by RFC 3629 (utils.rs: string_from_slice, which calls the library's from_utf8).
 ghost use mathlib.Core.Path.{_≡_};
+ghost use mathlib.Core.Bool.{true, false};
 ghost use Prim.Native.Nat.{_+_, _≤_};
 ghost use lib.ListN.{length, drop};
 ghost use Rattle.utf8.specs.Utf8.{leadOf, tailsOf, char};
-ghost use Rattle.utf8.specs.Steps.{Reached, Went, AtMost};
+ghost use Rattle.utf8.specs.Steps.{Reached, AtMost, wrongOf, Rights};
 ghost use Rattle.utf8.specs.Promises.{ValidLenPromise};
 
-// How many bytes a stride has. A text with fewer is tried in strides of a quarter.
-const STRIDE: usize = 32;
+// How many bytes are judged at once, each with the three before it.
+const BLOCK: usize = 64;
 
-// So many bytes are passed character by character before strides are tried again: text of short plain runs pays for few of them.
-const STRETCH: usize = 64;
+// A text that has no block is passed in strides of so many, as long as they are plain.
+const STRIDE: usize = 8;
 
 // What a first byte asks: `rest` bytes after it, the first of those from `lo` to `hi`.
 enum Lead {
@@ -116,86 +117,138 @@ fn largest(s: &[u8], from: usize, count: usize) -> u8
 }
 
 // Passes bytes below 0x80 in strides, as long as a whole stride has no other. What is left at the end, the text's last stride has.
-fn strides(s: &[u8], from: usize, stride: usize) -> usize
-    requires { ⌜ Reached (now s) from × (1 ≤ stride) ⌝ }
-    ensures { λ r. ⌜ Went (now (s .entry)) from r ⌝ }
+fn strides(s: &[u8]) -> usize
+    ensures { λ r. ⌜ Reached (now (s .entry)) r ⌝ }
 {
-    let mut at = from;
-    while stride <= s.len() - at {
-        if 0x80 <= largest(s, at, stride) {
+    let mut at = 0;
+    while STRIDE <= s.len() - at {
+        if 0x80 <= largest(s, at, STRIDE) {
             return at;
         }
-        at += stride;
+        at += STRIDE;
     }
-    if s.len() < stride {
+    if s.len() < STRIDE {
         return at;
     }
-    if 0x80 <= largest(s, s.len() - stride, stride) {
+    if 0x80 <= largest(s, s.len() - STRIDE, STRIDE) {
         return at;
     }
     s.len()
 }
 
-// How far a text that is shorter than a stride is passed at once.
-fn begin(s: &[u8]) -> usize
+// Whether the byte `b` may not stand after the bytes `d`, `c` and `a`. There is no branch: all is asked of every byte.
+fn wrong(d: u8, c: u8, a: u8, b: u8) -> bool
+    ensures { λ r. ⌜ r ≡ wrongOf d c a b ⌝ }
+{
+    let continues = (0x80 <= b) & (b <= 0xBF);
+    let asked = (0xC0 <= a) | (0xE0 <= c) | (0xF0 <= d);
+    let never = (b == 0xC0) | (b == 0xC1) | (0xF5 <= b);
+    let low = ((a == 0xE0) & (b < 0xA0)) | ((a == 0xF0) & (b < 0x90));
+    let high = ((a == 0xED) & (0x9F < b)) | ((a == 0xF4) & (0x8F < b));
+    (continues != asked) | never | low | high
+}
+
+// Whether one of the `count` bytes three behind `from` may not stand where it does. All are judged before the answer is looked at, so that
+// the compiler can take many in one step.
+fn wrongs(s: &[u8], from: usize, count: usize) -> bool
+    requires { ⌜ from + 3 + count ≤ length (now s) ⌝ }
+    ensures { λ r. ⌜ (r ≡ false → Rights (now (s .entry)) (from + 3) (from + 3 + count)) ⌝ }
+{
+    let mut any = false;
+    let mut k = 0;
+    while k < count {
+        let at = from + k;
+        any = any | wrong(s[at], s[at + 1], s[at + 2], s[at + 3]);
+        k += 1;
+    }
+    any
+}
+
+// Whether these bytes pass, where none of them and of the three before is above `most`: plain bytes pass unseen.
+fn passes(s: &[u8], from: usize, count: usize, most: u8) -> bool
+    requires { ⌜ (from + 3 + count ≤ length (now s)) × AtMost (now s) from (from + 3 + count) most ⌝ }
+    ensures { λ r. ⌜ (r ≡ true → Rights (now (s .entry)) (from + 3) (from + 3 + count)) ⌝ }
+{
+    if most < 0x80 {
+        return true;
+    }
+    let any = wrongs(s, from, count);
+    !any
+}
+
+// Whether one of the first three bytes, which have fewer before them, may not stand where it does.
+fn first_wrong(s: &[u8]) -> bool
+    requires { ⌜ 3 ≤ length (now s) ⌝ }
+    ensures { λ r. ⌜ (r ≡ false → Rights (now (s .entry)) 0 3) ⌝ }
+{
+    wrong(0, 0, 0, s[0]) | wrong(0, 0, s[0], s[1]) | wrong(0, s[0], s[1], s[2])
+}
+
+// Where the last of the characters before `end` starts, if each byte up to there may stand where it does.
+fn last_start(s: &[u8], end: usize) -> usize
+    requires { ⌜ Rights (now s) 0 end × (end ≤ length (now s)) ⌝ }
     ensures { λ r. ⌜ Reached (now (s .entry)) r ⌝ }
 {
-    if STRIDE <= s.len() {
-        return 0;
-    }
-    if s.len() == 0 {
-        return 0;
-    }
-    if 0x80 <= s[0] {
-        return 0;
-    }
-    strides(s, 0, STRIDE / 4)
-}
-
-// Where a stretch from `from` ends: after its bytes, or with the text.
-fn stretch_end(s: &[u8], from: usize) -> usize
-    requires { ⌜ from ≤ length (now s) ⌝ }
-{
-    if s.len() - from <= STRETCH {
-        s.len()
-    } else {
-        from + STRETCH
-    }
-}
-
-// Passes a stretch character by character, as long as one starts.
-fn stretch(s: &[u8], from: usize) -> usize
-    requires { ⌜ Reached (now s) from ⌝ }
-    ensures { λ r. ⌜ Went (now (s .entry)) from r ⌝ }
-{
-    let end = stretch_end(s, from);
-    let mut at = from;
-    while at < end {
-        let n = char_at(s, at);
-        if n == 0 {
+    let mut at = end;
+    while 0 < at {
+        at -= 1;
+        if s[at] < 0x80 {
             return at;
         }
-        at += n;
+        if 0xBF < s[at] {
+            return at;
+        }
     }
     at
 }
 
-// The length of the longest well-formed text that `s` starts with. Strides are tried only where the byte at hand is below 0x80, and where
-// one failed, not again for a stretch.
+// Up to where each byte may stand where it does, block by block: to the end, or to the first block with one that may not. The last block
+// may overlap the one before.
+fn right_up_to(s: &[u8], count: usize) -> usize
+    requires { ⌜ (3 ≤ count) × (3 + count ≤ length (now s)) ⌝ }
+    ensures { λ r. ⌜ Rights (now (s .entry)) 0 r × (r ≤ length (now (s .entry))) ⌝ }
+{
+    if first_wrong(s) {
+        return 0;
+    }
+    let mut before = largest(s, 0, 3);
+    let mut at = 0;
+    while 3 + count <= s.len() - at {
+        let most = largest(s, at + 3, count);
+        if !passes(s, at, count, larger(before, most)) {
+            return at + 3;
+        }
+        before = most;
+        at += count;
+    }
+    let last = s.len() - (3 + count);
+    if passes(s, last, count, largest(s, last, 3 + count)) {
+        return s.len();
+    }
+    at + 3
+}
+
+// How far a text is passed by many bytes at once; what is left is passed character by character.
+fn begin(s: &[u8]) -> usize
+    ensures { λ r. ⌜ Reached (now (s .entry)) r ⌝ }
+{
+    if s.len() < 3 + BLOCK {
+        return strides(s);
+    }
+    last_start(s, right_up_to(s, BLOCK))
+}
+
+// The length of the longest well-formed text that `s` starts with.
 pub fn valid_len(s: &[u8]) -> usize
     ensures { λ r. ⌜ ValidLenPromise (now (s .entry)) r ⌝ }
 {
     let mut at = begin(s);
     while at < s.len() {
-        if s[at] < 0x80 {
-            at = stretch(s, strides(s, at + 1, STRIDE));
-        } else {
-            let longer = char_at(s, at);
-            if longer == 0 {
-                return at;
-            }
-            at += longer;
+        let n = char_at(s, at);
+        if n == 0 {
+            return at;
         }
+        at += n;
     }
     at
 }

@@ -2,16 +2,16 @@
 use Prim.Native.Nat.{_-_}
 use native.Mathlib.Omega.{arith}
 use lib.ListN.{length}
-use Rattle.utf8.specs.Steps.{Went}
+use Rattle.utf8.specs.Steps.{Reached}
 use Rattle.utf8.proofs.Laws.{text-run}
 use Rattle.utf8.proofs.strides.Statement.{statement}
 use Rattle.utf8.proofs.strides.Tie as tie
 
 abbrev Inv-loop : tie.InvT-loop
-Inv-loop s from stride at₀ at = Went s from at
+Inv-loop s at₀ at = Reached s at
 
 abbrev μ-loop : tie.MeasureT-loop
-μ-loop s from stride at₀ at = length s - at
+μ-loop s at₀ at = length s - at
 
 pub strides-spec : {M : Type 1} → statement M
 strides-spec =
@@ -19,18 +19,14 @@ strides-spec =
     (tie.spec
     Inv-loop
     μ-loop
-    (λ c. (omega arith, c .before .pre .0))  -- loop-holds
+    (λ c. (omega arith, omega arith))  -- loop-holds
     (λ c. omega arith) (λ c κs. omega arith)
     (λ c. c .before .before .before .loop .inv)  -- returns
     (λ c. omega arith) (λ c. omega arith)
-    (λ c. let h = c .before .before .before in let s = h .before .before .args .s .now in let at = h .loop .at in (
-      omega arith,
-      text-run s at _ (h .loop .inv .1) (omega arith) (omega arith) (λ k p q. omega (arith, c .before .largest .ensures k p (omega arith))),
-    ))  -- loop-again
+    (λ c. let h = c .before .before .before in let s = h .before .before .args .s .now in let at = h .loop .at in
+    text-run s at _ (h .loop .inv) (omega arith) (omega arith) (λ k p q. omega (arith, c .before .largest .ensures k p (omega arith))))  -- loop-again
     (λ c. c .before .before .loop .inv)  -- returns-2
     (λ c. omega arith) (λ c κs. omega arith)
     (λ c. c .before .before .before .before .loop .inv)  -- returns-3
-    (λ c. let h = c .before .before .before .before in let s = h .before .before .args .s .now in let at = h .loop .at in (
-      omega arith,
-      text-run s at _ (h .loop .inv .1) (omega arith) (omega arith) (λ k p q. omega (arith, c .before .largest2 .ensures k (omega arith) (omega arith))),
-    )))  -- returns-4
+    (λ c. let h = c .before .before .before .before in let s = h .before .before .args .s .now in let at = h .loop .at in
+    text-run s at _ (h .loop .inv) (omega arith) (omega arith) (λ k p q. omega (arith, c .before .largest2 .ensures k (omega arith) (omega arith)))))  -- returns-4

@@ -1,10 +1,10 @@
--- `utf8::valid_len` meets its contract: the loop goes on by runs and by characters, and stops where none starts. Assumes nothing.
+-- `utf8::valid_len` meets its contract: the loop goes from character to character, and stops where none starts. Assumes nothing.
 use mathlib.Core.Path.{sym, _∙_}
 use Prim.Native.Nat.{_-_, _+_}
 use native.Mathlib.Omega.{arith}
 use lib.ListN.{length}
 use Rattle.utf8.specs.Steps.{Reached}
-use Rattle.utf8.proofs.Laws.{char-end, char-plain, text-stop, text-go}
+use Rattle.utf8.proofs.Laws.{char-end, text-stop, text-go}
 use Rattle.utf8.proofs.valid_len.Statement.{statement}
 use Rattle.utf8.proofs.valid_len.Tie as tie
 
@@ -15,11 +15,11 @@ abbrev μ-loop : tie.MeasureT-loop
 μ-loop s at₀ at = length s - at
 
 -- a character was found: the loop comes to its end
-went : (c : tie.Else2 Inv-loop μ-loop)
-    → Reached (c .before .before .before .before .before .before .before .before .args .s .now) (c .before .before .before .before .before .loop .at + c .before .char-at .result)
+went : (c : tie.Else1 Inv-loop μ-loop)
+    → Reached (c .before .before .before .before .before .before .args .s .now) (c .before .before .before .loop .at + c .before .char-at .result)
 went c =
-    let h = c .before .before .before .before .before in
-    text-go (h .before .before .before .args .s .now) (h .loop .at) (c .before .char-at .result) (h .loop .inv) (c .before .char-at .ensures) (c .if2 .left)
+    let h = c .before .before .before in
+    text-go (h .before .before .before .args .s .now) (h .loop .at) (c .before .char-at .result) (h .loop .inv) (c .before .char-at .ensures) (c .if1 .left)
 
 pub valid-len-spec : {M : Type 1} → statement M
 valid-len-spec =
@@ -27,19 +27,12 @@ valid-len-spec =
     (tie.spec
     Inv-loop
     μ-loop
-    (λ c κs. tt)  -- begin-requires
+    (λ c κs. tt)
     (λ c. c .begin .ensures)  -- loop-holds
-    (λ c. omega arith) (λ c. omega arith)
-    (λ c κs. let h = c .before .before .before in let s = h .before .before .before .args .s .now in
-    (text-go s (h .loop .at) 1 (h .loop .inv) (sym (char-plain (h .loop .at) s (omega arith) (omega arith))) (λ z. omega arith), omega arith))  -- strides-requires
-    (λ c κs. c .strides .ensures .1)  -- stretch-requires
-    (λ c. omega (arith, c .stretch .ensures, c .before .strides .ensures))  -- loop-less
-    (λ c. c .stretch .ensures .1)  -- loop-again
-    (λ c κs. tt)  -- char-at-requires
-    (λ c. let h = c .before .before .before .before .before in
-    text-stop (h .before .before .before .args .s .now) (h .loop .at) (h .loop .inv) (sym (c .before .char-at .ensures) ∙ c .if2 .taken))  -- returns
-    (λ c. omega (arith, went c))  -- add-at
-    (λ c. omega (arith, went c))  -- loop-less-2
-    went  -- loop-again-2
+    (λ c κs. tt)
+    (λ c. let h = c .before .before .before in
+    text-stop (h .before .before .before .args .s .now) (h .loop .at) (h .loop .inv) (sym (c .before .char-at .ensures) ∙ c .if1 .taken))  -- returns
+    (λ c. omega (arith, went c)) (λ c. omega (arith, went c))
+    went  -- loop-again
     (λ c. let h = c .before in let s = h .before .before .before .args .s .now in
     text-stop s (h .loop .at) (h .loop .inv) (char-end (h .loop .at) s (omega arith))))  -- returns-2
