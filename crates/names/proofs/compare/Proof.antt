@@ -1,38 +1,30 @@
--- `names::compare` meets its contract: what is left of both compares as the whole does. Assumes nothing.
-use mathlib.Core.Path.{_≡_, refl, sym, _∙_}
-use Prim.Native.Nat.{_≤_, _-_}
+-- `names::compare` meets its contract: the first eight bytes decide, or those that `alike` finds, or the lengths. Assumes nothing.
+use mathlib.Core.Path.{sym, _∙_}
 use native.Mathlib.Omega.{arith}
-use lib.ListN.{drop}
-use Rattle.names.specs.Order.{compareOf}
-use Rattle.names.proofs.Laws.{compare-end, compare-short, compare-long, compare-below, compare-above, compare-next}
+use borrow.Author.Needs.{needs}
+use Rattle.names.proofs.Words.{be-alike, word-decides, end-decides}
 use Rattle.names.proofs.compare.Statement.{statement}
 use Rattle.names.proofs.compare.Tie as tie
-
-abbrev Inv-loop : tie.InvT-loop
-Inv-loop a b shared i₀ i = (i ≤ shared) × (compareOf a b ≡ compareOf (drop i a) (drop i b))
-
-abbrev μ-loop : tie.MeasureT-loop
-μ-loop a b shared i₀ i = shared - i
 
 pub compare-spec : {M : Type 1} → statement M
 compare-spec =
     tie.close
     (tie.spec
-    Inv-loop
-    μ-loop
-    (λ c κs. tt)  -- least-requires
-    (λ c. (omega arith, refl))  -- loop-holds
-    (λ c. omega arith) (λ c. omega arith)
-    (λ c. let h = c .before .before .before .before .before in let a = h .before .before .before .before .args in
-    sym (h .loop .inv .1 ∙ compare-below (a .a .now) (a .b .now) (h .loop .i) (omega arith) (omega arith) (omega arith)))  -- returns
-    (λ c. let h = c .before .before .before .before .before in let a = h .before .before .before .before .args in
-    sym (h .loop .inv .1 ∙ compare-above (a .a .now) (a .b .now) (h .loop .i) (omega arith) (omega arith) (omega arith)))  -- returns-2
-    (λ c. omega arith) (λ c. omega arith)
-    (λ c. let h = c .before .before .before .before in let a = h .before .before .before .before .args in
-    (omega arith, h .loop .inv .1 ∙ compare-next (a .a .now) (a .b .now) (h .loop .i) (omega arith) (omega arith) (omega arith) (omega arith)))  -- loop-again
-    (λ c. let h = c .before .before in let a = h .before .before .before .before .args in
-    sym (h .loop .inv .1 ∙ compare-short (a .a .now) (a .b .now) (h .loop .i) (omega arith) (omega arith)))  -- returns-3
-    (λ c. let h = c .before .before .before in let a = h .before .before .before .before .args in
-    sym (h .loop .inv .1 ∙ compare-long (a .a .now) (a .b .now) (h .loop .i) (omega arith) (omega arith)))  -- returns-4
-    (λ c. let h = c .before .before .before in let a = h .before .before .before .before .args in
-    sym (h .loop .inv .1 ∙ compare-end (a .a .now) (a .b .now) (h .loop .i) (omega arith) (omega arith))))  -- returns-5
+    (λ c κs. search needs) (λ c κs. search needs) (λ c. search needs) (λ c κs. search needs) (λ c κs. search needs) (λ c κs. search needs)
+    (λ c. let h = c .before .before .before .before .before .before in let a = h .before .before .args in
+    let law = word-decides (a .a .now) (a .b .now) (h .before .shared-slice-known .given) (h .shared-slice-known2 .given) in
+    c .order-of .ensures
+    ∙ sym (law 0 _ _ (omega arith) (omega arith) (omega arith) (λ k p. absurd (omega arith)) (omega arith) (omega arith)))  -- returns-2
+    (λ c κs. let h = c .before .before .before .before .before in let a = h .before .before .args in
+    let law = be-alike (a .a .now) (a .b .now) (h .before .shared-slice-known .given) (h .shared-slice-known2 .given) in
+    (law 0 8 (omega arith) (λ k p. absurd (omega arith)), omega arith, omega arith, omega arith))  -- alike-requires
+    (λ c κs. search needs) (λ c κs. search needs) (λ c κs. search needs)
+    (λ c. let d = c .before .before .before .before in let h = d .before .before .before .before .before .before in let a = h .before .before .args in
+    let law = word-decides (a .a .now) (a .b .now) (h .before .shared-slice-known .given) (h .shared-slice-known2 .given) in
+    c .order-of2 .ensures
+    ∙ sym (law (d .alike .result) _ _ (omega arith) (omega arith) (omega arith) (d .alike .ensures .alike) (omega arith) (omega arith)))  -- returns-3
+    (λ c κs. search needs)
+    (λ c. let d = c .before .before .before .before in let h = d .before .before .before .before .before .before in let a = h .before .before .args in
+    let law = end-decides (a .a .now) (a .b .now) (h .before .shared-slice-known .given) (h .shared-slice-known2 .given) in
+    c .order-of3 .ensures
+    ∙ sym (law (d .alike .result) _ _ (omega arith) (omega arith) (d .before .before .before .before .before .least .result) (omega arith) (d .alike .ensures) (omega arith))))  -- returns-4
