@@ -1,7 +1,9 @@
-//! Long names that are plain but for a place or two: where a check that goes in strides could go
-//! wrong.
+//! Long names, where a check that takes many bytes at once could go wrong: plain but for a place or
+//! two, plain but for four bytes, of longer characters with one byte changed, and two that begin
+//! alike.
 
-use crate::encode::{DictionaryShape, dictionary};
+use crate::Input;
+use crate::encode::{DictionaryShape, dictionary, plain_object};
 
 /// What stands in a plain name: characters of each length, and bytes that are none.
 const OTHERS: [&[u8]; 9] = [
@@ -16,17 +18,108 @@ const OTHERS: [&[u8]; 9] = [
     b"\xF0\x9F\x98\x80",
 ];
 
-/// The plain bytes before, between and after are at most so many: more than three strides.
+/// The plain bytes before, between and after are at most so many: more than a block each.
 const MOST: usize = 100;
 
-/// Calls a function with the dictionary of each such name, until it fails.
-pub fn each<E>(mut visit: impl FnMut(&[u8]) -> Result<(), E>) -> Result<(), E> {
+/// Both ends of each range of bytes in RFC 3629's table.
+const ENDS: [u8; 23] = [
+    0x00, 0x7F, 0x80, 0x8F, 0x90, 0x9F, 0xA0, 0xBF, 0xC0, 0xC1, 0xC2, 0xDF, 0xE0, 0xE1, 0xEC, 0xED,
+    0xEE, 0xEF, 0xF0, 0xF1, 0xF3, 0xF4, 0xF5,
+];
+
+/// Plain bytes before four such ones and after them: the four stand at the text's start, across the
+/// border of the first two blocks, and at the text's end.
+const AROUND: [(usize, usize); 3] = [(0, 80), (65, 75), (90, 0)];
+
+/// What names of longer characters are made of.
+const LONGER: [&str; 5] = ["é", "€", "😀", "aé", "aé€😀"];
+
+/// What stands in place of one of their bytes.
+const CHANGES: [u8; 7] = [b'a', 0x80, 0xBF, 0xC3, 0xE2, 0xF0, 0xFF];
+
+/// How two names end that begin alike.
+const TAILS: [&str; 9] = [
+    "",
+    "a",
+    "b",
+    "\u{7F}",
+    "é",
+    "ab",
+    "abcdefgh",
+    "abcdefgz",
+    "abcdefghi",
+];
+
+/// The bytes in common are at most so many: five words of eight.
+const COMMON: usize = 40;
+
+/// Calls a function with the dictionary of each name that is plain but for a place or two, until it
+/// fails.
+pub fn plain<E>(mut visit: impl FnMut(&[u8]) -> Result<(), E>) -> Result<(), E> {
     for first in 0..=MOST {
         for second in 0..=MOST {
             for other in OTHERS {
                 let (before, after) = (vec![b'a'; first], vec![b'z'; second]);
                 visit(&of_one(&[&before, other, &after].concat()))?;
                 visit(&of_one(&[&before, "é".as_bytes(), &after, other].concat()))?;
+            }
+        }
+    }
+    Ok(())
+}
+
+/// The same with each name that is plain but for four bytes.
+pub fn fours<E>(mut visit: impl FnMut(&[u8]) -> Result<(), E>) -> Result<(), E> {
+    for (before, after) in AROUND {
+        let mut name = vec![b'a'; before + 4 + after];
+        for number in 0..ENDS.len().pow(4) {
+            for (power, byte) in (0..).zip(&mut name[before..before + 4]) {
+                *byte = ENDS[number / ENDS.len().pow(power) % ENDS.len()];
+            }
+            visit(&of_one(&name))?;
+        }
+    }
+    Ok(())
+}
+
+/// The same with each name of longer characters, one or two blocks long and cut at any byte, in
+/// which one byte is changed or none.
+pub fn longer<E>(mut visit: impl FnMut(&[u8]) -> Result<(), E>) -> Result<(), E> {
+    for characters in LONGER {
+        let text = characters.repeat(MOST).into_bytes();
+        for length in (64..=72).chain(128..=136) {
+            visit(&of_one(&text[..length]))?;
+            for place in 0..length {
+                for change in CHANGES {
+                    let mut name = text[..length].to_vec();
+                    name[place] = change;
+                    visit(&of_one(&name))?;
+                }
+            }
+        }
+    }
+    Ok(())
+}
+
+/// The same with two names that begin alike, in either order, sorted or not, and objects that have
+/// both as fields, in either order.
+pub fn alike<E>(mut visit: impl FnMut(&Input) -> Result<(), E>) -> Result<(), E> {
+    let common: String = ('a'..='z').cycle().take(COMMON).collect();
+    let child = vec![0x0C, 1];
+    let pairs = TAILS.iter().flat_map(|one| TAILS.map(|other| (one, other)));
+    for (one, other) in pairs.filter(|(one, other)| *one != other) {
+        for length in 0..=COMMON {
+            let names = [one, other].map(|tail| [&common[..length], tail].concat().into_bytes());
+            for sorted in [true, false] {
+                for ids in [[0, 1], [1, 0]] {
+                    let shape = DictionaryShape {
+                        width: 1,
+                        sorted,
+                        spare: false,
+                    };
+                    let object = plain_object(&ids, &[child.clone(), child.clone()]);
+                    visit(&Input::object(dictionary(&names, shape), object))?;
+                }
             }
         }
     }

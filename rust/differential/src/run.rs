@@ -135,7 +135,18 @@ impl<R: Reader> Run<'_, R> {
             "every object of telling bytes, two dictionaries",
             Self::telling_objects,
         )?;
-        self.kind("long names, plain but for a place or two", Self::long_names)?;
+        self.kind("long names, plain but for a place or two", |run| {
+            long_names::plain(|dict| run.dictionary(dict))
+        })?;
+        self.kind("long names, plain but for four bytes", |run| {
+            long_names::fours(|dict| run.dictionary(dict))
+        })?;
+        self.kind("long names of longer characters, one byte changed", |run| {
+            long_names::longer(|dict| run.dictionary(dict))
+        })?;
+        self.kind("two names that begin alike", |run| {
+            long_names::alike(|input| run.input(input))
+        })?;
         self.kind("generated, and damaged copies", Self::generated)
     }
 
@@ -222,10 +233,6 @@ impl<R: Reader> Run<'_, R> {
                 self.dictionary(dict)
             })
         })
-    }
-
-    fn long_names(&mut self) -> Going {
-        long_names::each(|dict| self.dictionary(dict))
     }
 
     fn every_object(&mut self) -> Going {
