@@ -4,12 +4,10 @@ ghost use Prim.Native.Nat.{_+_, _≤_, _<_};
 ghost use Rattle.names.specs.Order.{compareOf};
 ghost use Rattle.names.specs.Search.{seek};
 ghost use Rattle.object.specs.Object.{count as countOf, offset as offsetOf, start as regionStart, end as trimmedEnd, fieldName};
-ghost use Rattle.object.specs.Steps.{LayerOf, MessageOf};
+ghost use Rattle.object.specs.Steps.{LayerOf, Over, Opened};
 ghost use Rattle.lookup.specs.Promises.{GetPromise, ChildPromise};
 ghost use Rattle.lookup.specs.Steps.{soughtOf, PlaceOf};
 use object::Layer;
-use object::Message;
-use object::Opening;
 
 pub enum Lookup {
     Refused(object::Refusal),
@@ -22,12 +20,17 @@ pub enum Lookup {
 }
 
 // How the name of field k compares with the one that is looked for.
-fn compare_field(dict: &[u8], object: &[u8], m: Message, k: usize, name: &[u8]) -> names::Order
-    requires { ⌜ MessageOf (now dict) (now object) m × (k < countOf (now object)) ⌝ }
+fn compare_field(
+    dict: &[u8],
+    h: metadata::Header,
+    object: &[u8],
+    l: Layer,
+    k: usize,
+    name: &[u8],
+) -> names::Order
+    requires { ⌜ Opened (now dict) h (now object) l × (k < countOf (now object)) ⌝ }
     ensures { λ r. ⌜ r ≡ compareOf (fieldName (now (dict .entry)) (now (object .entry)) k) (now (name .entry)) ⌝ }
 {
-    let h = m.header;
-    let l = m.layer;
     let id = object::id_at(object, l, k);
     let field = metadata::span_of(dict, h, id);
     let a = field.start;
@@ -41,16 +44,15 @@ enum Search {
 }
 
 // The field of that name, by halving (utils.rs: try_binary_search_range_by).
-fn find(dict: &[u8], object: &[u8], m: Message, name: &[u8]) -> Search
-    requires { ⌜ MessageOf (now dict) (now object) m ⌝ }
+fn find(dict: &[u8], h: metadata::Header, object: &[u8], l: Layer, name: &[u8]) -> Search
+    requires { ⌜ Opened (now dict) h (now object) l ⌝ }
     ensures { λ r. ⌜ soughtOf r ≡ seek (fieldName (now (dict .entry)) (now (object .entry))) (now (name .entry)) (countOf (now (object .entry))) ⌝ }
 {
-    let l = m.layer;
     let mut low = 0;
     let mut high = l.count;
     while low < high {
         let middle = low + (high - low) / 2;
-        let order = compare_field(dict, object, m, middle, name);
+        let order = compare_field(dict, h, object, l, middle, name);
         match order {
             names::Order::Less => {
                 low = middle + 1;
@@ -82,19 +84,19 @@ fn field_place(object: &[u8], l: Layer, k: usize) -> Place
     }
 }
 
-// Lookup by name.
-pub fn get(dict: &[u8], object: &[u8], name: &[u8]) -> Lookup
+// Lookup by name over a dictionary that passed its checks.
+fn get_over(dict: &[u8], h: metadata::Header, object: &[u8], name: &[u8]) -> Lookup
+    requires { ⌜ Over (now dict) h ⌝ }
     ensures { λ r. ⌜ GetPromise (now (dict .entry)) (now (object .entry)) (now (name .entry)) r ⌝ }
 {
-    let opening = object::open(dict, object);
-    match opening {
-        Opening::Refused(r) => Lookup::Refused(r),
-        Opening::Open(m) => {
-            let found = find(dict, object, m, name);
+    let layer = object::check_layer(dict, h, object);
+    match layer {
+        object::Head::Refused(r) => Lookup::Refused(r),
+        object::Head::Good(l) => {
+            let found = find(dict, h, object, l, name);
             match found {
                 Search::Nowhere => Lookup::Absent,
                 Search::At(k) => {
-                    let l = m.layer;
                     let place = field_place(object, l, k);
                     Lookup::Found {
                         field: k,
@@ -104,6 +106,17 @@ pub fn get(dict: &[u8], object: &[u8], name: &[u8]) -> Lookup
                 }
             }
         }
+    }
+}
+
+// Lookup by name.
+pub fn get(dict: &[u8], object: &[u8], name: &[u8]) -> Lookup
+    ensures { λ r. ⌜ GetPromise (now (dict .entry)) (now (object .entry)) (now (name .entry)) r ⌝ }
+{
+    let head = metadata::checked(dict);
+    match head {
+        metadata::Head::Refused(r) => Lookup::Refused(object::Refusal::Dictionary(r)),
+        metadata::Head::Good(h) => get_over(dict, h, object, name),
     }
 }
 

@@ -8,13 +8,15 @@ use Rattle.object.specs.declared.Refusal.the-variants.{Dictionary, TooLo
 use Rattle.object.specs.declared.Verdict.{Verdict}
 use Rattle.object.specs.declared.Verdict.the-variants as verdict
 use Rattle.object.specs.declared.Layer.{Layer}
+use Rattle.object.specs.declared.Head.{Head}
+use Rattle.object.specs.declared.Head.the-variants as head
 use Rattle.object.specs.declared.Message.{Message}
 use Rattle.object.specs.declared.Opening.{Opening}
 use Rattle.object.specs.declared.Opening.the-variants as opening
 use Rattle.object.specs.Object.{offsetWidth, idWidth, count, idsStart, offsetsStart, start, end}
 use Rattle.object.specs.Answers.{refusalNumber, refusalPlace, verdictNumbers}
 use Rattle.object.specs.Promises.{CheckPromise}
-use Rattle.object.specs.Steps.{LayerOf, MessageOf, OpeningOf}
+use Rattle.object.specs.Steps.{LayerOf, CheckedOf, MessageOf, OpeningOf}
 
 -- REFUSALS: number and place, read back; `other` where the number is none of theirs
 unfoldable pub refusalBy : {A : Type 0} → (Refusal → A) → A → ℕ → ℕ → A
@@ -74,6 +76,12 @@ message-pinned d o m n a b =
     message-by m n (cc) (sym (layer-is o (m .layer) (a .layered)) ∙ layer-is o (n .layer) (b .layered))
 
 -- THE THEOREMS, a call each
+pub check-layer-pinned : (d o : List ℕ) (r q : Head) → CheckedOf d o r → CheckedOf d o q → r ≡ q
+check-layer-pinned d o (head.Refused r) (head.Refused q) a b = ap head.Refused (refusal-injective r q (cc) (cc))
+check-layer-pinned d o (head.Refused r) (head.Good n) a b = let c = b .1 in let z : _≡_ {A = ℕ} 0 1 = cc in absurd (omega arith)
+check-layer-pinned d o (head.Good l) (head.Refused q) a b = let c = a .1 in let z : _≡_ {A = ℕ} 0 1 = cc in absurd (omega arith)
+check-layer-pinned d o (head.Good l) (head.Good n) a b = ap head.Good (sym (layer-is o l (a .0)) ∙ layer-is o n (b .0))
+
 pub open-pinned : (d o : List ℕ) (r q : Opening) → OpeningOf d o r → OpeningOf d o q → r ≡ q
 open-pinned d o (opening.Refused r) (opening.Refused q) a b = ap opening.Refused (refusal-injective r q (cc) (cc))
 open-pinned d o (opening.Refused r) (opening.Open n) a b = let c = b .passes in let z : _≡_ {A = ℕ} 0 1 = cc in absurd (omega arith)

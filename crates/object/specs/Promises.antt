@@ -1,5 +1,5 @@
--- What each public call promises, once for its `ensures` and for proofs/Pinned.antt; `open` promises `OpeningOf` of Steps.antt.
--- Assumes nothing.
+-- What each public call promises, once for its `ensures` and for proofs/Pinned.antt. (`check_layer` and `open` promise
+-- `CheckedOf` and `OpeningOf` of Steps.antt.) Assumes nothing.
 use mathlib.Core.Path.{_≡_}
 use mathlib.Core.List.{List}
 use Prim.Native.Nat.{ℕ}

@@ -84,11 +84,14 @@ abbrev pub CheckedOf : List ℕ → List ℕ → Head → Type 0
 CheckedOf d o (head.Refused r) = checks d o ≡ stopOf r
 CheckedOf d o (head.Good l) = LayerOf o l × (checks d o ≡ pass)
 
--- a dictionary and an object that passed all checks
-pub record MessageOf (d o : List ℕ) (m : Message) : Type 0 where
-  pub over : Over d (m .header)
-  pub layered : LayerOf o (m .layer)
+-- a dictionary and an object that passed all checks, with the numbers of both
+pub record Opened (d : List ℕ) (h : Header) (o : List ℕ) (l : Layer) : Type 0 where
+  pub over : Over d h
+  pub layered : LayerOf o l
   pub passes : checks d o ≡ pass
+
+abbrev pub MessageOf : List ℕ → List ℕ → Message → Type 0
+MessageOf d o m = Opened d (m .header) o (m .layer)
 
 abbrev pub OpeningOf : List ℕ → List ℕ → Opening → Type 0
 OpeningOf d o (opening.Refused r) = checks d o ≡ stopOf r

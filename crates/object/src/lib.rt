@@ -115,7 +115,8 @@ fn end_of(object: &[u8], w: usize, start: usize) -> usize
     start + width::unpack_u32(object, start - w, w)
 }
 
-enum Head {
+// What a check comes to that hands the layer's numbers on.
+pub enum Head {
     Refused(Refusal),
     Good(Layer),
 }
@@ -319,8 +320,9 @@ fn check_rest(dict: &[u8], h: metadata::Header, object: &[u8], l: Layer) -> Outc
     }
 }
 
-// All checks of the layer, over a dictionary that passed its own.
-fn check_layer(dict: &[u8], h: metadata::Header, object: &[u8]) -> Head
+// All checks of the layer, over a dictionary that passed its own: those it does not test again. Public with Head for the lookup,
+// which hands the header and the layer on by themselves, not gathered in a Message.
+pub fn check_layer(dict: &[u8], h: metadata::Header, object: &[u8]) -> Head
     requires { ⌜ Over (now dict) h ⌝ }
     ensures { λ r. ⌜ CheckedOf (now (dict .entry)) (now (object .entry)) r ⌝ }
 {

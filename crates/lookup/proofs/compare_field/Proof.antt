@@ -11,7 +11,7 @@ compare-field-spec =
     tie.close
     (tie.spec
     (λ c κs. search needs)  -- id-at-requires
-    (λ c κs. let s = c .before .before .before .before .before .before in
+    (λ c κs. let s = c .before .before .before .before in
     (s .pre .0 .over, omega (arith, entry-of (s .args .dict .now) (s .args .object .now) (s .pre .0 .passes) (s .args .k) (s .pre .1))))  -- span-of-requires
     (λ c. search needs) (λ c. search needs) (λ c. search needs) (λ c κs. search needs)
     (λ c. c .compare .ensures ∙ rw (c .before .before .span-of .ensures .name-is, c .before .before .before .id-at .ensures .0)))  -- returns

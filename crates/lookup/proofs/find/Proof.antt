@@ -7,10 +7,10 @@ use Rattle.lookup.proofs.find.Statement.{statement}
 use Rattle.lookup.proofs.find.Tie as tie
 
 abbrev Inv-loop : tie.InvT-loop
-Inv-loop dict object m name low₀ high₀ low high = (low ≤ high) × (high ≤ countOf object) × Between (fieldName dict object) name (countOf object) low high
+Inv-loop dict h object l name low₀ high₀ low high = (low ≤ high) × (high ≤ countOf object) × Between (fieldName dict object) name (countOf object) low high
 
 abbrev μ-loop : tie.MeasureT-loop
-μ-loop dict object m name low₀ high₀ low high = high - low
+μ-loop dict h object l name low₀ high₀ low high = high - low
 
 abbrev middle : ℕ → ℕ → ℕ
 middle low high = low + (high - low) / 2
@@ -21,28 +21,28 @@ find-spec =
     (tie.spec
     Inv-loop
     μ-loop
-    (λ c. (omega arith, omega arith, rw (c .before .before .before .before .pre .layered .count-is) (between-all _ _ _)))  -- loop-holds
+    (λ c. (omega arith, omega arith, rw (c .before .before .before .pre .layered .count-is) (between-all _ _ _)))  -- loop-holds
     (λ c. omega arith) (λ c. omega arith)
-    (λ c κs. (c .before .before .before .before .before .before .pre, omega arith))  -- compare-field-requires
+    (λ c κs. (c .before .before .before .before .before .pre, omega arith))  -- compare-field-requires
     (λ c. search needs) (λ c. omega arith) (λ c. omega arith)
     (λ c. let e = sym (c .before .before .compare-field .ensures) ∙ c .enum-told .given .1 in
     let l = c .before .before .before .before .loop in
-    let s = c .before .before .before .before .before .before .before .before .before in
+    let s = c .before .before .before .before .before .before .before .before in
     let rising = names-rise (s .args .dict .now) (s .args .object .now) (s .pre .passes) in
     (omega arith, omega arith, between-less _ _ _ rising (l .low) (l .high) (middle (l .low) (l .high)) (l .inv .2) (omega arith) e))  -- loop-again
     (λ c. search needs)  -- enum-told-2
     (λ c. let e = sym (c .before .before .compare-field .ensures) ∙ c .enum-told2 .given .1 in
     let l = c .before .before .before .before .loop in
-    let s = c .before .before .before .before .before .before .before .before .before in
+    let s = c .before .before .before .before .before .before .before .before in
     let rising = names-rise (s .args .dict .now) (s .args .object .now) (s .pre .passes) in
     sym (between-equal _ _ _ rising (l .low) (l .high) (middle (l .low) (l .high)) (l .inv .2) (omega arith) e))  -- returns
     (λ c. search needs) (λ c. omega arith)
     (λ c. let e = sym (c .before .before .compare-field .ensures) ∙ c .enum-told3 .given .1 in
     let l = c .before .before .before .before .loop in
-    let s = c .before .before .before .before .before .before .before .before .before in
+    let s = c .before .before .before .before .before .before .before .before in
     let rising = names-rise (s .args .dict .now) (s .args .object .now) (s .pre .passes) in
     (omega arith, omega arith, between-greater _ _ _ rising (l .low) (l .high) (middle (l .low) (l .high)) (l .inv .2) (omega arith) e))  -- loop-again-2
     (λ c. let l = c .before .loop in
-    let s = c .before .before .before .before .before .before in
+    let s = c .before .before .before .before .before in
     let rising = names-rise (s .args .dict .now) (s .args .object .now) (s .pre .passes) in
     sym (between-none _ _ _ rising (l .low) (l .high) (l .inv .2) (omega arith))))  -- returns-2
