@@ -1,12 +1,12 @@
 -- Where the dictionary's numbers stand, and by which table its checks are settled. Assumes nothing.
-use Rattle.rules.proofs.Prelude.{_≡_, refl, sym, _∙_, Bool, List, ℕ, _+_, _-_, _*_, _≤_, mul-le-mul-left, arith, length, Found, first, each, Passed, Fails}
-use Rattle.rules.proofs.Prelude.{_orElse_, pass, stop, first-pass, passed, stops, goes, unless}
+use Rattle.rules.proofs.Prelude.{_≡_, refl, sym, _∙_, Bool, false, List, ℕ, _+_, _-_, _*_, _≤_, mul-le-mul-left, arith, length, Found, first, each, Passed, Fails}
+use Rattle.rules.proofs.Prelude.{_orElse_, pass, stop, first-pass, passed, stops, goes, unless, false-true, _&_}
 use Rattle.part.specs.Part.{part}
 use Rattle.part.proofs.Laws.{part-length, part-part}
 use Rattle.utf8.specs.Utf8.{Text}
 use Rattle.utf8.proofs.Laws.{text-all}
 use Rattle.utf8.proofs.Bounds.{text-first}
-use Rattle.metadata.specs.Dictionary.{headRules, regionRules, entryRows, entryRules, checks, sorted, width, count, offset, start, end, region, name, cuts}
+use Rattle.metadata.specs.Dictionary.{headRules, regionRules, entryRows, entryRules, checks, sorted, width, count, offset, start, end, region, name, cuts, outside}
 
 -- PLACES
 
@@ -60,6 +60,12 @@ module _ (d : List ℕ) where
       → first (entryRules d k) ≡ first (entryRows b r p a e k)
   unfolding entryRules
   entry-is k e1 e2 e3 e4 e5 = rw (e1, e2, e3, e4, e5)
+
+  -- an entry whose offsets are in range passes, where the names need not be in order
+  pub entry-passes : (k : ℕ) {b : Bool} {r : List ℕ} {a e : ℕ} → b ≡ sorted d → b ≡ false → r ≡ region d → a ≡ offset d k → e ≡ offset d (k + 1)
+      → Fails (cuts r a) → Fails (outside r a e) → first (entryRules d k) ≡ pass
+  entry-passes k e1 unsorted e2 e3 e4 whole range =
+      entry-is k e1 e2 refl e3 e4 ∙ first-pass _ ((whole & range) & (λ s. false-true (sym unsorted ∙ s)) & tt)
 
   pub by-head : {c p : ℕ} → first (headRules d) ≡ stop c p → checks d ≡ stop c p
   unfolding checks
