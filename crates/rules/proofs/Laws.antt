@@ -37,7 +37,7 @@ stop-pass e = let z : _≡_ {A = ℕ} 0 1 = cc in absurd (omega arith)
 
 -- TESTS: what `holds` computes is what `Holds` and `Fails` say.
 
-both : (a b : Bool) → (a && b) ≡ true → (a ≡ true) × (b ≡ true)
+pub both : (a b : Bool) → (a && b) ≡ true → (a ≡ true) × (b ≡ true)
 both true b e = (refl, e)
 both false b e = false-true e
 
@@ -45,7 +45,7 @@ not-both : (a b : Bool) → (a ≡ true → b ≡ false) → (a && b) ≡ false
 not-both true b h = h refl
 not-both false b h = refl
 
-either : (a b : Bool) → (a ≡ false → b ≡ true) → (a || b) ≡ true
+pub either : (a b : Bool) → (a ≡ false → b ≡ true) → (a || b) ≡ true
 either true b h = refl
 either false b h = h refl
 

@@ -11,6 +11,7 @@ use borrow.Author.Tests.{leb-true, le-leb, lt-leb}
 use lib.Dec.{leb}
 use lib.ListN.{length, take, drop, getD, drop-of-length-le, length-drop}
 use lib.Seq.{drop-cons, take-length}
+use Rattle.rules.proofs.Laws.{false-true, both}
 use Rattle.walk.specs.Walk.{Finds}
 use Rattle.walk.proofs.Laws.{upTo-le, upTo-sound, upTo-longest, upTo-end, upTo-next, upTo-whole}
 use Rattle.utf8.specs.declared.Lead.{Lead}
@@ -19,7 +20,7 @@ use Rattle.utf8.specs.Utf8.{Tails, Char, Text, leadOf, tailsOf, charBy, 
 use Rattle.utf8.specs.Utf8.Tails.{end, next}
 use Rattle.utf8.specs.Utf8.Char.{char-of}
 use Rattle.utf8.specs.Steps.{Reached, AtMost}
-use Rattle.utf8.proofs.Table.{and-true, lead-is}
+use Rattle.utf8.proofs.Table.{lead-is}
 
 -- The bytes after it.
 
@@ -35,16 +36,13 @@ unfolding tailsOf
 tails-complete end s = refl
 tails-complete {l} {h} (next {b = b} p q r) s = rw (le-leb l b p, le-leb b h q) (tails-complete r s)
 
-pub false-true : {A : Type 0} → false ≡ true → A
-false-true e = let z : _≡_ {A = ℕ} 0 1 = cc in absurd (omega arith)
-
 tails-sound : (l h n : ℕ) (s : List ℕ) → tailsOf l h n s ≡ true → (n ≤ length s) × Tails l h n (take n s)
 unfolding tailsOf
 tails-sound l h zero s e = (zero-le, end)
 tails-sound l h (suc n) [] e = false-true e
 tails-sound l h (suc n) (b ∷ s) e =
-    let u = and-true (leb l b) (leb b h && tailsOf 0x80 0xBF n s) e in
-    let v = and-true (leb b h) (tailsOf 0x80 0xBF n s) (u .1) in
+    let u = both (leb l b) (leb b h && tailsOf 0x80 0xBF n s) e in
+    let v = both (leb b h) (tailsOf 0x80 0xBF n s) (u .1) in
     let r = tails-sound 0x80 0xBF n s (v .1) in
     (suc-le-suc (r .0), next (leb-true l b (u .0)) (leb-true b h (v .0)) (r .1))
 

@@ -8,25 +8,18 @@ use native.Mathlib.Omega.{arith}
 use borrow.Author.Tests.{ltb-false, leb-true, leb-false, eqb-false, le-leb, lt-leb, eq-eqb, ne-eqb}
 use lib.Dec.{leb, ltb, eqb}
 use lib.ListN.{length, drop, getD}
+use Rattle.rules.proofs.Laws.{false-true, both, either, neither}
 use Rattle.utf8.specs.declared.Lead.the-variants.{Seq}
 use Rattle.utf8.specs.Utf8.{leadOf, tailsOf, Cont}
 use Rattle.utf8.specs.Steps.{Reached, AtMost, wrongOf, RightAt, Rights}
-use Rattle.utf8.proofs.Table.{and-true, lead-is}
-use Rattle.utf8.proofs.Laws.{false-true, tails-none, tails-in, char-seq, text-go}
+use Rattle.utf8.proofs.Table.{lead-is}
+use Rattle.utf8.proofs.Laws.{tails-none, tails-in, char-seq, text-go}
 
 -- TESTS.
-
-pub neither : (t u : Bool) → (t || u) ≡ false → (t ≡ false) × (u ≡ false)
-neither true u e = false-true (sym e)
-neither false u e = (refl, e)
 
 and-rest : (t u : Bool) → (t && u) ≡ false → t ≡ true → u ≡ false
 and-rest true u e p = e
 and-rest false u e p = false-true p
-
-or-true : (t u : Bool) → u ≡ true → (t || u) ≡ true
-or-true true u e = refl
-or-true false u e = e
 
 same : (t u : Bool) → not (Bool·beq t u) ≡ false → t ≡ u
 same true true e = refl
@@ -47,7 +40,7 @@ pub record Right (d c a b : ℕ) : Type 0 where
 
 module _ (d c a b : ℕ) where
   continued : (leb 0x80 b && leb b 0xBF) ≡ true → Cont b
-  continued e = let u = and-true (leb 0x80 b) (leb b 0xBF) e in (leb-true 0x80 b (u .0), leb-true b 0xBF (u .1))
+  continued e = let u = both (leb 0x80 b) (leb b 0xBF) e in (leb-true 0x80 b (u .0), leb-true b 0xBF (u .1))
 
   pub right : wrongOf d c a b ≡ false → Right d c a b
   unfolding wrongOf
@@ -69,8 +62,8 @@ module _ (d c a b : ℕ) where
             let n = eqb-false b 0xC1 (lead .1) in
             (omega arith, omega (arith, leb-false 0xF5 b (never .1)));
         second = λ p. continued (x ∙ rw (le-leb 0xC0 a p));
-        third = λ p. continued (x ∙ rw (or-true (leb 0xC0 a) (leb 0xE0 c) (le-leb 0xE0 c p)));
-        fourth = λ p. continued (x ∙ or-true (leb 0xC0 a || leb 0xE0 c) (leb 0xF0 d) (le-leb 0xF0 d p));
+        third = λ p. continued (x ∙ rw (either (leb 0xC0 a) (leb 0xE0 c) (λ _. le-leb 0xE0 c p)));
+        fourth = λ p. continued (x ∙ either (leb 0xC0 a || leb 0xE0 c) (leb 0xF0 d) (λ _. le-leb 0xF0 d p));
         e0 = λ p. ltb-false b 0xA0 (and-rest (eqb a 0xE0) (ltb b 0xA0) (low .0) (eq-eqb a 0xE0 p));
         f0 = λ p. ltb-false b 0x90 (and-rest (eqb a 0xF0) (ltb b 0x90) (low .1) (eq-eqb a 0xF0 p));
         ed = λ p. ltb-false 0x9F b (and-rest (eqb a 0xED) (ltb 0x9F b) (high .0) (eq-eqb a 0xED p));

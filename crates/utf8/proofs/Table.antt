@@ -6,6 +6,7 @@ use Prim.Native.Nat.{ℕ, _≤_}
 use native.Mathlib.Omega.{arith}
 use borrow.Author.Tests.{ltb-true, leb-true, le-leb}
 use lib.Dec.{leb, ltb}
+use Rattle.rules.proofs.Laws.{both}
 use Rattle.utf8.specs.declared.Lead.{Lead}
 use Rattle.utf8.specs.declared.Lead.the-variants.{Bad, Seq}
 use Rattle.utf8.specs.Utf8.{Row, table, look, leadOf, Cont}
@@ -21,10 +22,6 @@ abbrev pub Within : List Row → ℕ → ℕ → Lead → Type 0
 Within [] lo hi x = Bad ≡ x
 Within (row f t l h n ∷ rows) lo hi x =
     choose (leb f lo && leb hi t) (Seq l h n ≡ x) (choose (ltb hi f || ltb t lo) (Within rows lo hi x) ⊥)
-
-pub and-true : (a b : Bool) → (a && b) ≡ true → (a ≡ true) × (b ≡ true)
-and-true true b e = (refl, e)
-and-true false b e = let z : _≡_ {A = ℕ} 0 1 = cc in absurd (omega arith)
 
 outside : (f t lo hi a : ℕ) → lo ≤ a → a ≤ hi → (ltb hi f || ltb t lo) ≡ true → (leb f a && leb a t) ≡ false
 outside f t lo hi a p q e = go (leb f a) refl (leb a t) refl (ltb hi f) refl e
@@ -43,7 +40,7 @@ look-is (row f t l h n ∷ rows) lo hi a x w p q =
     go : (u : Bool) → (leb f lo && leb hi t) ≡ u → (v : Bool) → (ltb hi f || ltb t lo) ≡ v → (Within rows lo hi x → look rows a ≡ x)
         → choose u (Seq l h n ≡ x) (choose v (Within rows lo hi x) ⊥) → cond (leb f a && leb a t) (Seq l h n) (look rows a) ≡ x
     go true e v f′ k w =
-        let u = and-true (leb f lo) (leb hi t) e in
+        let u = both (leb f lo) (leb hi t) e in
         rw (le-leb f a (omega (arith, leb-true f lo (u .0))), le-leb a t (omega (arith, leb-true hi t (u .1)))) w
     go false e true f′ k w = rw (outside f t lo hi a p q f′) (k w)
     go false e false f′ k w = absurd w
@@ -65,7 +62,7 @@ pub record Followed (a l h : ℕ) : Type 0 where
 
 starts-none : (f t a : ℕ) → (ltb t 0x80 || ltb 0xBF f) ≡ true → (leb f a && leb a t) ≡ true → Cont a → ⊥
 starts-none f t a e g c =
-    let u = and-true (leb f a) (leb a t) g in
+    let u = both (leb f a) (leb a t) g in
     go (ltb t 0x80) refl e (leb-true f a (u .0)) (leb-true a t (u .1))
   where
     go : (w : Bool) → ltb t 0x80 ≡ w → (w || ltb 0xBF f) ≡ true → f ≤ a → a ≤ t → ⊥
@@ -75,9 +72,9 @@ starts-none f t a e g c =
 look-followed : (rows : List Row) (a : ℕ) {l h n : ℕ} → fine rows ≡ true → look rows a ≡ Seq l h n → Followed a l h
 look-followed [] a g e = let z : _≡_ {A = ℕ} 0 1 = cc in absurd (omega arith)
 look-followed (row f t l′ h′ n′ ∷ rows) a {l} {h} {n} g e =
-    let u = and-true (ltb t 0x80 || ltb 0xBF f) _ g in
-    let v = and-true (leb 0x80 l′) _ (u .1) in
-    let w = and-true (leb h′ 0xBF) _ (v .1) in
+    let u = both (ltb t 0x80 || ltb 0xBF f) _ g in
+    let v = both (leb 0x80 l′) _ (u .1) in
+    let w = both (leb h′ 0xBF) _ (v .1) in
     go (leb f a && leb a t) refl (u .0) (leb-true 0x80 l′ (v .0)) (leb-true h′ 0xBF (w .0)) (look-followed rows a (w .1)) e
   where
     go : (b : Bool) → (leb f a && leb a t) ≡ b → (ltb t 0x80 || ltb 0xBF f) ≡ true → 0x80 ≤ l′ → h′ ≤ 0xBF

@@ -2,7 +2,8 @@
 use mathlib.Core.Path.{sym, _∙_}
 use mathlib.Core.Bool.{_||_}
 use borrow.Author.Needs.{needs}
-use Rattle.utf8.proofs.Local.{neither, rights-three}
+use Rattle.rules.proofs.Laws.{neither}
+use Rattle.utf8.proofs.Local.{rights-three}
 use Rattle.utf8.proofs.first_wrong.Statement.{statement}
 use Rattle.utf8.proofs.first_wrong.Tie as tie
 

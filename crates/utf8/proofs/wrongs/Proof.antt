@@ -4,7 +4,8 @@ use mathlib.Core.Bool.{false}
 use Prim.Native.Nat.{_+_, _-_, _≤_}
 use native.Mathlib.Omega.{arith}
 use Rattle.utf8.specs.Steps.{Rights}
-use Rattle.utf8.proofs.Local.{neither, rights-more, right-behind}
+use Rattle.rules.proofs.Laws.{neither}
+use Rattle.utf8.proofs.Local.{rights-more, right-behind}
 use Rattle.utf8.proofs.wrongs.Statement.{statement}
 use Rattle.utf8.proofs.wrongs.Tie as tie
 
