@@ -223,6 +223,13 @@ module _ (s : List ℕ) where
   pub rights-three : RightAt s 0 → RightAt s 1 → RightAt s 2 → Rights s 0 3
   rights-three x y z = rights-more 0 2 (rights-more 0 1 (rights-more 0 0 (λ k p q. absurd (omega arith)) x) y) z
 
+  pub rights-start : (m : ℕ) → AtMost s 0 3 m → m < 0x80 → Rights s 0 3
+  rights-start m h p =
+      let low : (j : ℕ) → j < 3 → getD s j 0 < 0x80 = λ j q. omega (arith, h j (omega arith) q) in
+      let x = low 0 (omega arith) in
+      let y = low 1 (omega arith) in
+      rights-three (plain 0 0 0 _ (omega arith) (omega arith) (omega arith) x) (plain 0 0 _ _ (omega arith) (omega arith) x y) (plain 0 _ _ _ (omega arith) x y (low 2 (omega arith)))
+
   pub rights-join : (i j n : ℕ) → Rights s 0 i → Rights s j n → j ≤ i → Rights s 0 n
   rights-join i j n h g l k p q = go (decLt k i)
     where

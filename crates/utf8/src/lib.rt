@@ -176,12 +176,16 @@ fn passes(s: &[u8], from: usize, count: usize, most: u8) -> bool
     !any
 }
 
-// Whether one of the first three bytes, which have fewer before them, may not stand where it does.
-fn first_wrong(s: &[u8]) -> bool
-    requires { ⌜ 3 ≤ length (now s) ⌝ }
-    ensures { λ r. ⌜ (r ≡ false → Rights (now (s .entry)) 0 3) ⌝ }
+// The same of the first three bytes, which have fewer before them.
+fn first_pass(s: &[u8], top: u8) -> bool
+    requires { ⌜ (3 ≤ length (now s)) × AtMost (now s) 0 3 top ⌝ }
+    ensures { λ r. ⌜ (r ≡ true → Rights (now (s .entry)) 0 3) ⌝ }
 {
-    wrong(0, 0, 0, s[0]) | wrong(0, 0, s[0], s[1]) | wrong(0, s[0], s[1], s[2])
+    if top < 0x80 {
+        return true;
+    }
+    let any = wrong(0, 0, 0, s[0]) | wrong(0, 0, s[0], s[1]) | wrong(0, s[0], s[1], s[2]);
+    !any
 }
 
 // Where the last of the characters before `end` starts, if each byte up to there may stand where it does.
@@ -208,10 +212,10 @@ fn right_up_to(s: &[u8], count: usize) -> usize
     requires { ⌜ (3 ≤ count) × (3 + count ≤ length (now s)) ⌝ }
     ensures { λ r. ⌜ Rights (now (s .entry)) 0 r × (r ≤ length (now (s .entry))) ⌝ }
 {
-    if first_wrong(s) {
+    let mut before = largest(s, 0, 3);
+    if !first_pass(s, before) {
         return 0;
     }
-    let mut before = largest(s, 0, 3);
     let mut at = 0;
     while 3 + count <= s.len() - at {
         let most = largest(s, at + 3, count);

@@ -23,9 +23,9 @@ right-up-to-spec =
     Inv-loop
     μ-loop
     (λ c κs. omega arith)
+    (λ c κs. (omega arith, c .largest .ensures))  -- first-pass-requires
     (λ c. (λ k p q. absurd (omega arith), omega arith))  -- returns
-    (λ c κs. omega arith)
-    (λ c. (omega arith, c .before .before .first-wrong .ensures (c .before .if1 .left), c .largest .ensures))  -- loop-holds
+    (λ c. (omega arith, c .before .first-pass .ensures (not-false _ (c .if1 .left)), c .before .before .largest .ensures))  -- loop-holds
     (λ c. omega arith) (λ c. omega arith) (λ c. omega arith) (λ c κs. omega arith) (λ c κs. tt)
     (λ c κs. let h = c .before .before .before in let s = h .before .before .before .before .before .args .s .now in let l = h .loop in
     (omega arith, at-most-join s (l .at) (l .at + 3) _ _ _ _ (l .inv .2) (c .before .largest2 .ensures) (c .larger .ensures .0) (c .larger .ensures .1)))  -- passes-requires
