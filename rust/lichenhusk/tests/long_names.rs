@@ -1,14 +1,14 @@
-//! Long plain names with another byte at each of their places: 16 has that place, whatever the
-//! strides in which plain bytes are passed.
+//! Long names with another byte at each of their places: 16 has that place, or the start of the
+//! character there, however many bytes are judged at once. And names with many bytes in common.
 
-use lichenhusk::{Dictionary, Refusal};
+use lichenhusk::{Dictionary, Found, Refusal};
 
 /// The dictionary of one name of up to 255 bytes.
 fn of_one(name: &[u8]) -> Vec<u8> {
     [&[1, 1, 0, name.len() as u8], name].concat()
 }
 
-/// So long are the names at most: six strides and a part of one.
+/// So long are the names at most: three blocks and a part of one.
 const LONGEST: usize = 200;
 
 /// Calls a function with each length and each place before it.
@@ -49,4 +49,70 @@ fn a_character_of_two_bytes() {
             "at {place} of {length}"
         );
     });
+}
+
+#[test]
+fn a_byte_that_is_in_no_character() {
+    for character in ["é", "€", "😀"] {
+        each_place(|length, place| {
+            let mut name = character.repeat(LONGEST).into_bytes();
+            name.truncate(length);
+            name[place] = 0xFF;
+            let prefix = (place - place % character.len()) as u32;
+            assert_eq!(
+                lichenhusk::dictionary(&of_one(&name)),
+                Err(Refusal::DictionaryNotUtf8 { prefix }),
+                "{character}, FF at {place} of {length}"
+            );
+        });
+    }
+}
+
+/// Three names with so many bytes in common, in order: the dictionary and an object that has all.
+fn with_common(length: usize) -> (Vec<String>, Vec<u8>, Vec<u8>) {
+    let names: Vec<String> = ["", "a", "b"]
+        .map(|tail| "x".repeat(length) + tail)
+        .to_vec();
+    let ends = [0, length, 2 * length + 1, 3 * length + 2].map(|end| end as u8);
+    let dict = [&[0x11, 3][..], &ends, names.concat().as_bytes()].concat();
+    let object = vec![2, 3, 0, 1, 2, 0, 1, 2, 3, 0, 0, 0];
+    (names, dict, object)
+}
+
+#[test]
+fn names_with_many_bytes_in_common() {
+    for length in 1..=80 {
+        let (names, dict, object) = with_common(length);
+        for (field, name) in (0..).zip(&names) {
+            let start = 9 + field;
+            assert_eq!(
+                lichenhusk::lookup(&dict, &object, name.as_bytes()),
+                Ok(Some(Found {
+                    field,
+                    start,
+                    end: 12
+                })),
+                "{length} in common, field {field}"
+            );
+        }
+        let absent = "x".repeat(length) + "ab";
+        assert_eq!(
+            lichenhusk::lookup(&dict, &object, absent.as_bytes()),
+            Ok(None)
+        );
+    }
+}
+
+#[test]
+fn names_with_many_bytes_in_common_out_of_order() {
+    for length in 1..=80 {
+        let (_, mut dict, _) = with_common(length);
+        let last = dict.len() - 1;
+        dict[last] = b'a';
+        assert_eq!(
+            lichenhusk::dictionary(&dict),
+            Err(Refusal::DictionaryOrder { entry: 2 }),
+            "{length} in common"
+        );
+    }
 }
