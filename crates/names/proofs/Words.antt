@@ -16,7 +16,7 @@ use Rattle.width.specs.Width.{le}
 use Rattle.names.specs.declared.Order.{Order}
 use Rattle.names.specs.declared.Order.the-variants.{Less, Equal, Greater}
 use Rattle.names.specs.Order.{compareOf, isLess}
-use Rattle.names.specs.Words.{be, by, orderOf, Alike, Decides}
+use Rattle.names.specs.Steps.{be, by, orderOf, Alike, Decides}
 use Rattle.names.proofs.Laws.{compare-end, compare-short, compare-long}
 
 -- four bytes, one by one, and eight as twice four

@@ -2,7 +2,7 @@
 ghost use mathlib.Core.Path.{_≡_};
 ghost use Prim.Native.Nat.{_+_, _≤_, _<_, min};
 ghost use lib.ListN.{length};
-ghost use Rattle.names.specs.Words.{be, Raw, orderOf, Alike, Decides};
+ghost use Rattle.names.specs.Steps.{be, Raw, orderOf, Alike, Decides};
 ghost use Rattle.names.specs.Promises.{ComparePromise, IsBelowPromise};
 
 pub enum Order {

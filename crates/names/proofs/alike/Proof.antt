@@ -1,7 +1,7 @@
 -- `names::alike` meets its contract: where eight bytes spell the same number, they are the same. Assumes nothing.
 use Prim.Native.Nat.{_+_, _-_}
 use native.Mathlib.Omega.{arith}
-use Rattle.names.specs.Words.{Alike}
+use Rattle.names.specs.Steps.{Alike}
 use Rattle.names.proofs.Words.{alike-le, le-alike}
 use Rattle.names.proofs.alike.Statement.{statement}
 use Rattle.names.proofs.alike.Tie as tie

@@ -1,4 +1,4 @@
--- What comparing eight bytes at a time goes by. Assumes nothing.
+-- What the steps of a comparison by eight bytes at a time promise each other. Assumes nothing.
 use mathlib.Core.Path.{_≡_}
 use mathlib.Core.Bool.{cond}
 use mathlib.Core.List.{List}
