@@ -2,12 +2,11 @@
 use mathlib.Core.Path.{_≡_, refl, sym, ap, ap₂, _∙_}
 use mathlib.Core.Bool.{Bool, true, false, cond}
 use mathlib.Core.List.{List, [], _∷_}
-use Prim.Native.Nat.{ℕ, _+_, _≤_, _<_}
-use native.Mathlib.Numerals.{add-one}
+use Prim.Native.Nat.{ℕ, _≤_, _<_}
 use native.Mathlib.Omega.{arith}
-use borrow.Author.Tests.{lt-ltb, le-ltb, ltb-true, ltb-false}
+use borrow.Author.Tests.{ltb-true, ltb-false}
 use lib.Dec.{ltb}
-use lib.ListN.{length, drop, getD, drop-of-length-le}
+use lib.ListN.{length, drop, drop-of-length-le}
 use lib.Seq.{drop-cons}
 use Rattle.names.specs.declared.Order.{Order}
 use Rattle.names.specs.declared.Order.the-variants.{Less, Equal, Greater}
@@ -132,16 +131,3 @@ module _ (s t : List ℕ) (i : ℕ) where
   pub compare-long : i < length s → length t ≤ i → compareOf (drop i s) (drop i t) ≡ Greater
   unfolding compareOf
   compare-long p q = rw (drop-cons s i 0 p, drop-of-length-le t q)
-
-  module _ (p : i < length s) (q : i < length t) where
-    pub compare-below : getD s i 0 < getD t i 0 → compareOf (drop i s) (drop i t) ≡ Less
-    unfolding compareOf
-    compare-below h = rw (drop-cons s i 0 p, drop-cons t i 0 q, lt-ltb _ _ h)
-
-    pub compare-above : getD t i 0 < getD s i 0 → compareOf (drop i s) (drop i t) ≡ Greater
-    unfolding compareOf
-    compare-above h = rw (drop-cons s i 0 p, drop-cons t i 0 q, le-ltb (getD s i 0) (getD t i 0) (omega arith), lt-ltb _ _ h)
-
-    pub compare-next : getD s i 0 ≤ getD t i 0 → getD t i 0 ≤ getD s i 0 → compareOf (drop i s) (drop i t) ≡ compareOf (drop (i + 1) s) (drop (i + 1) t)
-    unfolding compareOf
-    compare-next h k = rw (add-one i, drop-cons s i 0 p, drop-cons t i 0 q, le-ltb (getD s i 0) (getD t i 0) k, le-ltb (getD t i 0) (getD s i 0) h)

@@ -12,6 +12,7 @@ use mir.Val.{Fits}
 use lib.Dec.{ltb}
 use lib.ListN.{length, drop, getD}
 use lib.Seq.{drop-cons}
+use Rattle.rules.proofs.Laws.{and-last}
 use Rattle.width.specs.Width.{le}
 use Rattle.names.specs.declared.Order.{Order}
 use Rattle.names.specs.declared.Order.the-variants.{Less, Equal, Greater}
@@ -73,12 +74,12 @@ below-by x y e = rw e (sym (go (ltb x y) (ltb y x)))
     go false false = refl
 
 -- as code knows it of a slice of bytes
-abbrev pub Bytes : List ℕ → Type 0
-Bytes s = (k : ℕ) → Fits w8 (getD s k 0)
+abbrev pub Octets : List ℕ → Type 0
+Octets s = (k : ℕ) → Fits w8 (getD s k 0)
 
 -- TWO NAMES: what is left of them compares by the next byte and what comes after it
 module _ (s t : List ℕ) where
-  compare-first : (i : ℕ) → i < length s → i < length t
+  pub compare-first : (i : ℕ) → i < length s → i < length t
       → compareOf (drop i s) (drop i t) ≡ by (getD s i 0) (getD t i 0) (compareOf (drop (suc i) s) (drop (suc i) t))
   unfolding compareOf by
   compare-first i p q = rw (drop-cons s i 0 p, drop-cons t i 0 q)
@@ -99,13 +100,6 @@ module _ (s t : List ℕ) where
       go (no u) (yes v) = compare-long s t n (omega arith) (omega arith) ∙ sym (by-greater _ _ Equal v)
       go (no u) (no v) = compare-end s t n (omega arith) (omega arith) ∙ sym (by-same _ _ Equal (omega arith))
 
-  alike-next : (n : ℕ) → Alike s t n → getD s n 0 ≡ getD t n 0 → Alike s t (suc n)
-  alike-next n a e k p = go (decLt k n)
-    where
-      go : Dec (k < n) → getD s k 0 ≡ getD t k 0
-      go (yes u) = a k u
-      go (no u) = let z : k ≡ n = omega arith in rw z e
-
   -- the lowest byte first: bytes that are the same, and only they, spell the same number
   pub alike-le : (n i : ℕ) → i + n ≤ length s → i + n ≤ length t → Alike s t (i + n) → le n (drop i s) ≡ le n (drop i t)
   unfolding le
@@ -114,13 +108,13 @@ module _ (s t : List ℕ) where
       let e = alike-le n (suc i) (omega arith) (omega arith) (λ k h. a k (omega arith)) in
       rw (drop-cons s i 0 (omega arith), drop-cons t i 0 (omega arith)) (omega (arith, e, a i (omega arith)))
 
-  module _ (f : Bytes s) (g : Bytes t) where
+  module _ (f : Octets s) (g : Octets t) where
     pub le-alike : (n i : ℕ) → i + n ≤ length s → i + n ≤ length t → le n (drop i s) ≡ le n (drop i t) → Alike s t i → Alike s t (i + n)
     unfolding le
     le-alike zero i p q e a = rw (add-zero i) a
     le-alike (suc n) i p q e a =
         let h = rw (drop-cons s i 0 (omega arith), drop-cons t i 0 (omega arith)) at e in
-        let next = alike-next i a (omega (arith, h, f i, g i)) in
+        let next = and-last _ i a (omega (arith, h, f i, g i)) in
         λ k u. le-alike n (suc i) (omega arith) (omega arith) (omega (arith, h, f i, g i)) next k (omega arith)
 
     module _ (i : ℕ) where
@@ -130,7 +124,7 @@ module _ (s t : List ℕ) where
       be-alike zero e a = rw (add-zero i) a
       be-alike (suc n) e a =
           let before = be-alike n (omega (arith, f (i + n), g (i + n))) a in
-          λ k u. alike-next (i + n) before (omega (arith, f (i + n), g (i + n))) k (omega arith)
+          λ k u. and-last _ (i + n) before (omega (arith, f (i + n), g (i + n))) k (omega arith)
 
       -- THE LAW: and they are in the order of their bytes
       be-by : (n : ℕ) → i + n ≤ length s → i + n ≤ length t

@@ -159,17 +159,21 @@ text-run s i (suc j) r p q h =
         let e : suc j ≡ j + 1 = omega arith in
         rw e (text-go s j 1 (f u) (sym (char-plain j s (omega arith) (omega (arith, h j (omega arith) (omega arith))))) (λ z. omega arith))
 
--- more bytes under a bound, and one more
-pub at-most-join : (s : List ℕ) (i j n m m′ r : ℕ) → AtMost s i j m → AtMost s j n m′ → m ≤ r → m′ ≤ r → AtMost s i n r
-at-most-join s i j n m m′ r h g p q k u v = go (decLt k j)
-  where
-    go : Dec (k < j) → getD s k 0 ≤ r
-    go (yes w) = omega (arith, h k u w)
-    go (no w) = omega (arith, g k (omega arith) v)
+-- What holds from i up to j, and further on, holds of both together.
+module _ (P : ℕ → Type 0) (i j : ℕ) (h : (x : ℕ) → i ≤ x → x < j → P x) where
+  pub join : (k n : ℕ) → ((x : ℕ) → k ≤ x → x < n → P x) → k ≤ j → (x : ℕ) → i ≤ x → x < n → P x
+  join k n g l x p q = go (decLt x j)
+    where
+      go : Dec (x < j) → P x
+      go (yes u) = h x p u
+      go (no u) = g x (omega arith) q
 
+  pub join-one : P j → (x : ℕ) → i ≤ x → x < j + 1 → P x
+  join-one r = join j (j + 1) (λ x u v. let e : x ≡ j = omega arith in rw e r) (omega arith)
+
+-- so of one byte more under a bound
 pub at-most-more : (s : List ℕ) (i j m m′ : ℕ) → AtMost s i j m → m ≤ m′ → getD s j 0 ≤ m′ → AtMost s i (j + 1) m′
-at-most-more s i j m m′ h p q =
-    at-most-join s i j (j + 1) m m′ m′ h (λ k u v. let e : k ≡ j = omega arith in rw e q) p (omega arith)
+at-most-more s i j m m′ h p q = join-one (λ k. getD s k 0 ≤ m′) i j (λ k u v. omega (arith, h k u v)) q
 
 -- a text is passed whole, and only a text is
 pub text-whole : (s : List ℕ) → Text s → textUpTo s ≡ length s

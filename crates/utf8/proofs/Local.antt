@@ -13,7 +13,7 @@ use Rattle.utf8.specs.declared.Lead.the-variants.{Seq}
 use Rattle.utf8.specs.Utf8.{leadOf, tailsOf, Cont}
 use Rattle.utf8.specs.Steps.{Reached, AtMost, wrongOf, RightAt, Rights}
 use Rattle.utf8.proofs.Table.{lead-is}
-use Rattle.utf8.proofs.Laws.{tails-none, tails-in, char-seq, text-go}
+use Rattle.utf8.proofs.Laws.{tails-none, tails-in, char-seq, text-go, join-one}
 
 -- TESTS.
 
@@ -213,15 +213,8 @@ plain d c a b p q r t =
     rw (x, y, z, u, v, w, k)
 
 module _ (s : List ℕ) where
-  pub rights-more : (i j : ℕ) → Rights s i j → RightAt s j → Rights s i (j + 1)
-  rights-more i j h r k p q = go (decLt k j)
-    where
-      go : Dec (k < j) → RightAt s k
-      go (yes u) = h k p u
-      go (no u) = let e : k ≡ j = omega arith in rw e r
-
   pub rights-three : RightAt s 0 → RightAt s 1 → RightAt s 2 → Rights s 0 3
-  rights-three x y z = rights-more 0 2 (rights-more 0 1 (rights-more 0 0 (λ k p q. absurd (omega arith)) x) y) z
+  rights-three x y z = join-one (RightAt s) 0 2 (join-one (RightAt s) 0 1 (join-one (RightAt s) 0 0 (λ k p q. absurd (omega arith)) x) y) z
 
   pub rights-start : (m : ℕ) → AtMost s 0 3 m → m < 0x80 → Rights s 0 3
   rights-start m h p =
@@ -229,13 +222,6 @@ module _ (s : List ℕ) where
       let x = low 0 (omega arith) in
       let y = low 1 (omega arith) in
       rights-three (plain 0 0 0 _ (omega arith) (omega arith) (omega arith) x) (plain 0 0 _ _ (omega arith) (omega arith) x y) (plain 0 _ _ _ (omega arith) x y (low 2 (omega arith)))
-
-  pub rights-join : (i j n : ℕ) → Rights s 0 i → Rights s j n → j ≤ i → Rights s 0 n
-  rights-join i j n h g l k p q = go (decLt k i)
-    where
-      go : Dec (k < i) → RightAt s k
-      go (yes u) = h k p u
-      go (no u) = g k (omega arith) q
 
   -- three behind a place
   pub right-behind : (i : ℕ) → wrongOf (getD s i 0) (getD s (i + 1) 0) (getD s (i + 2) 0) (getD s (i + 3) 0) ≡ false → RightAt s (i + 3)

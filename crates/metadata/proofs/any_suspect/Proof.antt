@@ -1,5 +1,5 @@
 -- `metadata::any_suspect` meets its contract: the loop keeps that, as long as nothing was flagged, all entries before i pass. Assumes nothing.
-use Rattle.rules.proofs.Prelude.{_≡_, _∙_, false, _≤_, _-_, arith, needs, first, each, pass, Fails, each-none, each-more}
+use Rattle.rules.proofs.Prelude.{_≡_, _∙_, false, _≤_, _-_, arith, first, each, pass, Fails, each-none, each-more}
 use Rattle.rules.proofs.Laws.{neither}
 use Rattle.metadata.specs.Dictionary.{entryRules, count as countOf, offset, cuts}
 use Rattle.metadata.proofs.Laws.{uncut-zero, entry-passes}

@@ -3,10 +3,9 @@ use mathlib.Core.Path.{_≡_}
 use Prim.Native.Nat.{_+_, _-_, _≤_}
 use native.Mathlib.Omega.{arith}
 use borrow.Author.Tests.{not-false}
-use lib.ListN.{length}
-use Rattle.utf8.specs.Steps.{AtMost, Rights}
-use Rattle.utf8.proofs.Laws.{at-most-join}
-use Rattle.utf8.proofs.Local.{rights-join}
+use lib.ListN.{length, getD}
+use Rattle.utf8.specs.Steps.{AtMost, RightAt, Rights}
+use Rattle.utf8.proofs.Laws.{join}
 use Rattle.utf8.proofs.right_up_to.Statement.{statement}
 use Rattle.utf8.proofs.right_up_to.Tie as tie
 
@@ -27,15 +26,18 @@ right-up-to-spec =
     (λ c. (λ k p q. absurd (omega arith), omega arith))  -- returns
     (λ c. (omega arith, c .before .first-pass .ensures (not-false _ (c .if1 .left)), c .before .before .largest .ensures))  -- loop-holds
     (λ c. omega arith) (λ c. omega arith) (λ c. omega arith) (λ c κs. omega arith) (λ c κs. tt)
-    (λ c κs. let h = c .before .before .before in let s = h .before .before .before .before .before .args .s .now in let l = h .loop in
-    (omega arith, at-most-join s (l .at) (l .at + 3) _ _ _ _ (l .inv .2) (c .before .largest2 .ensures) (c .larger .ensures .0) (c .larger .ensures .1)))  -- passes-requires
+    (λ c κs. let h = c .before .before .before in let s = h .before .before .before .before .before .args .s .now in let l = h .loop in (
+      omega arith,
+      join (λ k. getD s k 0 ≤ c .larger .result) (l .at) (l .at + 3) (λ k u v. omega (arith, l .inv .2 k u v)) (l .at + 3) _
+          (λ k u v. omega (arith, c .before .largest2 .ensures k u v)) (omega arith),
+    ))  -- passes-requires
     (λ c. omega arith)
     (λ c. let l = c .before .before .before .before .before .loop in (l .inv .1, l .inv .0))  -- returns-2
     (λ c. omega arith) (λ c. omega arith)
     (λ c. let h = c .before .before .before .before .before in let a = h .before .before .before .before .before .args in let l = h .loop in
     let e : l .at + 3 + a .count ≡ l .at + a .count + 3 = omega arith in (
       omega arith,
-      rw e at (rights-join (a .s .now) (l .at + 3) (l .at + 3) _ (l .inv .1) (c .before .passes .ensures (not-false _ (c .if2 .left))) (omega arith)),
+      rw e at (join (RightAt (a .s .now)) 0 (l .at + 3) (l .inv .1) (l .at + 3) _ (c .before .passes .ensures (not-false _ (c .if2 .left))) (omega arith)),
       λ k p q. c .before .before .before .largest2 .ensures k (omega arith) (omega arith),
     ))  -- loop-again
     (λ c. omega arith) (λ c. omega arith) (λ c. omega arith) (λ c κs. omega arith)
@@ -44,6 +46,6 @@ right-up-to-spec =
     (λ c. let h = c .before .before .before .before in let a = h .before .before .before .before .before .args in let l = h .loop in let n = length (a .s .now) in
     let e : n - (3 + a .count) + 3 + a .count ≡ n = omega arith in
     let g = c .before .passes2 .ensures (c .if3 .taken) in
-    (rights-join (a .s .now) (l .at + 3) (n - (3 + a .count) + 3) n (l .inv .1) (rw e at g) (omega arith), omega arith))  -- returns-3
+    (join (RightAt (a .s .now)) 0 (l .at + 3) (l .inv .1) (n - (3 + a .count) + 3) n (rw e at g) (omega arith), omega arith))  -- returns-3
     (λ c. omega arith)
     (λ c. let l = c .before .before .before .before .loop in (l .inv .1, l .inv .0)))  -- returns-4

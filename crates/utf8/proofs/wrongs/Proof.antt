@@ -3,9 +3,10 @@ use mathlib.Core.Path.{_≡_, sym, _∙_}
 use mathlib.Core.Bool.{false}
 use Prim.Native.Nat.{_+_, _-_, _≤_}
 use native.Mathlib.Omega.{arith}
-use Rattle.utf8.specs.Steps.{Rights}
+use Rattle.utf8.specs.Steps.{RightAt, Rights}
 use Rattle.rules.proofs.Laws.{neither}
-use Rattle.utf8.proofs.Local.{rights-more, right-behind}
+use Rattle.utf8.proofs.Laws.{join-one}
+use Rattle.utf8.proofs.Local.{right-behind}
 use Rattle.utf8.proofs.wrongs.Statement.{statement}
 use Rattle.utf8.proofs.wrongs.Tie as tie
 
@@ -31,6 +32,6 @@ wrongs-spec =
       λ e.
           let u = neither (h .loop .any) (c .wrong .result) e in
           let r = right-behind s (a .from + k) (sym (c .wrong .ensures) ∙ u .1) in
-          rw y at (rights-more s (a .from + 3) (a .from + 3 + k) (h .loop .inv .1 (u .0)) (rw x at r)),
+          rw y at (join-one (RightAt s) (a .from + 3) (a .from + 3 + k) (h .loop .inv .1 (u .0)) (rw x at r)),
     ))  -- loop-again
     (λ c. let l = c .before .loop in let e : l .k ≡ c .before .before .before .args .count = omega arith in rw e at (l .inv .1)))  -- returns
