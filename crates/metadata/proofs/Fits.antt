@@ -16,9 +16,9 @@ count-below : (d : List ℕ) → count d < start d
 unfolding start width
 count-below d = omega (arith, mul-le-mul-right {m = 1} {n = width d} (count d + 1) (omega arith))
 
--- a refusal's number is 10 to 18, so that none is taken for another answer's
+-- a refusal's number is 10 to 19, so that none is taken for another answer's
 abbrev pub Ours : ℕ → ℕ → Type 0
-Ours c p = (10 ≤ c) × (c < 19) × (p < 4294967296)
+Ours c p = (10 ≤ c) × (c < 20) × (p < 4294967296)
 
 pub checks-fit : (d : List ℕ) → Meant ((k : ℕ) → k < count d → Passed (entryRules d k)) Ours (checks d)
 unfolding checks entryRules u32Max
@@ -27,7 +27,7 @@ checks-fit d =
     meant-then _ (rows-mean Ours (regionRules (region d)) (omega (arith, end-is d, region-length d (omega arith), text-le (region d)))) λ _.
     each-means Ours (entryRules d) (count d) (λ k q. omega (arith, count-below d))
 
-pub checks-code : (d : List ℕ) {c p : ℕ} → checks d ≡ stop c p → (10 ≤ c) × (c < 19) × (p < 4294967296)
+pub checks-code : (d : List ℕ) {c p : ℕ} → checks d ≡ stop c p → Ours c p
 checks-code d e = meant-stop (checks-fit d) e
 
 -- the count, the end, and where each name stands

@@ -1,9 +1,11 @@
 -- Where the dictionary's numbers stand, and by which table its checks are settled. Assumes nothing.
-use Rattle.rules.proofs.Prelude.{_≡_, refl, sym, _∙_, Bool, false, List, ℕ, _+_, _-_, _*_, _≤_, mul-le-mul-left, arith, length, Found, first, each, Passed, Fails}
+use Rattle.rules.proofs.Prelude.{_≡_, refl, sym, _∙_, Bool, true, false, cond, List, ℕ, _+_, _-_, _*_, _≤_, mul-le-mul-left, arith, ltb, length, Found, first, each, Passed, Fails}
 use Rattle.rules.proofs.Prelude.{_orElse_, pass, stop, first-pass, passed, stops, goes, unless, false-true, _&_}
 use Rattle.part.specs.Part.{part}
 use Rattle.part.proofs.Laws.{part-length, part-part}
-use Rattle.utf8.specs.Utf8.{Text}
+use Rattle.utf8.specs.declared.Verdict.{Verdict}
+use Rattle.utf8.specs.declared.Verdict.the-variants.{Whole, Cut, Broken}
+use Rattle.utf8.specs.Utf8.{Text, textUpTo, isCut, verdict}
 use Rattle.utf8.proofs.Laws.{text-all}
 use Rattle.utf8.proofs.Bounds.{text-first}
 use Rattle.metadata.specs.Dictionary.{headRules, regionRules, entryRows, entryRules, checks, sorted, width, count, offset, start, end, region, name, cuts, outside}
@@ -48,9 +50,24 @@ module _ (d : List ℕ) where
 pub uncut-zero : (r : List ℕ) → Text r → Fails (cuts r 0)
 uncut-zero r t = unless (cuts r 0) (λ h. text-first t (h .0) (h .1))
 
+-- the region's table says what the text's verdict is
+abbrev pub foundIn : Verdict → Found
+foundIn Whole = pass
+foundIn (Cut p) = stop 19 p
+foundIn (Broken p) = stop 16 p
+
+pub by-text : (r : List ℕ) → first (regionRules r) ≡ foundIn (verdict r)
+unfolding first verdict
+by-text r = go (isCut r) (ltb (textUpTo r) (length r))
+  where
+    go : (a b : Bool) → cond a (stop 19 (textUpTo r)) (cond b (stop 16 (textUpTo r)) pass) ≡ foundIn (cond a (Cut (textUpTo r)) (cond b (Broken (textUpTo r)) Whole))
+    go true b = refl
+    go false true = refl
+    go false false = refl
+
 -- a region that passes is one
 pub text-passed : (r : List ℕ) → first (regionRules r) ≡ pass → Text r
-text-passed r e = text-all r (passed (regionRules r) e .0)
+text-passed r e = text-all r (passed (regionRules r) e .1 .0)
 
 -- THE CHECKS, BY WHERE THEY ARE SETTLED
 

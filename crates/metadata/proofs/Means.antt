@@ -1,15 +1,19 @@
 -- What the checks come to, row by row: where all pass, the rules of an accepted dictionary hold; where one stops, that refusal is due.
 -- Accepts.antt and Refuses.antt draw their theorems from it. Assumes nothing.
-use Rattle.rules.proofs.Prelude.{_≡_, refl, sym, _∙_, List, ℕ, _+_, _-_, _<_, arith, Test, Fails, Passed, first, each, _or_, pass, _&_, false-true, unless}
+use Rattle.rules.proofs.Prelude.{_≡_, refl, sym, ap, _∙_, List, ℕ, _+_, _-_, _<_, arith, Test, Fails, Passed, first, each, _or_, _orElse_, pass, _&_, false-true, unless}
 use Rattle.rules.proofs.Prelude.{never, first-pass, goes, Meant, Cases, by-rows, by-each, meant-then, meant-map, meant-pass}
+use Rattle.rules.proofs.Laws.Meant.{all-pass, one-stops}
 use Rattle.part.specs.Part.{part}
-use Rattle.utf8.proofs.Laws.{text-sound, text-longest, text-whole, text-all}
+use Rattle.utf8.specs.declared.Verdict.{Verdict}
+use Rattle.utf8.specs.Utf8.{Judged}
+use Rattle.utf8.specs.Utf8.Judged.{whole, cut, broken}
+use Rattle.utf8.proofs.Begins.{judged, judges}
 use Rattle.names.specs.Order.{below}
 use Rattle.names.proofs.Laws.{below-before, before-below}
 use Rattle.metadata.specs.Dictionary.{count, offset, end, region, name, cuts, outside, headRules, regionRules, entryRules, checks}
 use Rattle.metadata.specs.Meaning.{Sized, Versioned, Counted, Placed, Headed, Texted, Cut, InRange, GoodEntry, Dictionary, Refusal}
-use Rattle.metadata.specs.Meaning.Refusal.{too-long, empty, other-version, count-cut, start-sum, start-short, first-offset, end-sum, end-short, no-text, bad-range, not-above}
-use Rattle.metadata.proofs.Laws.{by-region}
+use Rattle.metadata.specs.Meaning.Refusal.{too-long, empty, other-version, count-cut, start-sum, start-short, first-offset, end-sum, end-short, cut-text, no-text, bad-range, not-above}
+use Rattle.metadata.proofs.Laws.{by-region, foundIn, by-text}
 
 module _ (d : List ℕ) where
   -- THE HEADER
@@ -36,16 +40,20 @@ module _ (d : List ℕ) where
 
   -- THE REGION
   region-means : Headed d → Meant (Texted d) (Refusal d) (first (regionRules (region d)))
-  region-means headed =
-      by-rows (Texted d) (Refusal d) (regionRules (region d))
-      ((λ h. no-text headed (record { short = h; is-text = text-sound (region d); longest = text-longest (region d) }))
-      & λ f. record { headed = headed; is-text = text-all (region d) f })
+  region-means headed = rw (by-text (region d)) (go (judged (region d)))
+    where
+      go : {v : Verdict} → Judged (region d) v → Meant (Texted d) (Refusal d) (foundIn v)
+      go (whole t) = all-pass (record { headed = headed; is-text = t })
+      go (cut l b) = one-stops (cut-text headed l b)
+      go (broken l n) = one-stops (no-text headed l n)
+
+  -- what the region is decides, where the header passes
+  pub by-judged : Headed d → {v : Verdict} → Judged (region d) v → checks d ≡ (foundIn v orElse first (each (entryRules d) (count d)))
+  by-judged h {v} j = by-region d (head-passed h) (by-text (region d) ∙ ap foundIn (sym (judges (region d) v .1 j)))
 
   -- and then the entries decide
   pub by-entries : Texted d → checks d ≡ first (each (entryRules d) (count d))
-  by-entries t =
-      by-region d (head-passed (t .headed)) (first-pass _ (omega (arith, text-whole (region d) (t .is-text)) & tt))
-      ∙ goes _ refl
+  by-entries t = by-judged (t .headed) (whole (t .is-text)) ∙ goes _ refl
 
   -- AN ENTRY: its offsets, as the row tests them
   abbrev pub out : ℕ → Test

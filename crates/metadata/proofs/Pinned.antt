@@ -2,7 +2,7 @@
 -- out of document 01's numbers, so no two cases have the same. Assumes nothing.
 use Rattle.rules.proofs.Prelude.{_≡_, refl, sym, ap, _∙_, cond, List, ℕ, _+_, eqb, getD, Answer, Found, gives, pass, stop}
 use Rattle.metadata.specs.declared.Refusal.{Refusal}
-use Rattle.metadata.specs.declared.Refusal.the-variants.{TooLong, Empty, Version, Short, Sum, FirstOffset, NotUtf8, Range, NotAbove}
+use Rattle.metadata.specs.declared.Refusal.the-variants.{TooLong, Empty, Version, Short, Sum, FirstOffset, NotUtf8, Range, NotAbove, CutText}
 use Rattle.metadata.specs.declared.Span.{Span}
 use Rattle.metadata.specs.declared.Verdict.{Verdict}
 use Rattle.metadata.specs.declared.Verdict.the-variants as verdict
@@ -26,7 +26,8 @@ refusalBy is other c p =
     (cond (eqb c 13) (is Short)
     (cond (eqb c 14) (is Sum)
     (cond (eqb c 15) (is FirstOffset)
-    (cond (eqb c 16) (is (NotUtf8 p)) (cond (eqb c 17) (is (Range p)) (cond (eqb c 18) (is (NotAbove p)) other))))))))
+    (cond (eqb c 16) (is (NotUtf8 p))
+    (cond (eqb c 17) (is (Range p)) (cond (eqb c 18) (is (NotAbove p)) (cond (eqb c 19) (is (CutText p)) other)))))))))
 
 pub refusal-back : {A : Type 0} (is : Refusal → A) (other : A) (r : Refusal) → refusalBy is other (refusalNumber r) (refusalPlace r) ≡ is r
 unfolding refusalBy
@@ -39,6 +40,7 @@ refusal-back is other FirstOffset = refl
 refusal-back is other (NotUtf8 p) = refl
 refusal-back is other (Range k) = refl
 refusal-back is other (NotAbove k) = refl
+refusal-back is other (CutText p) = refl
 
 -- the case that a number is
 pub by-number : (r : Refusal) {c : ℕ} → refusalNumber r ≡ c → r ≡ refusalBy (λ x. x) TooLong c (refusalPlace r)

@@ -1,20 +1,14 @@
 -- A dictionary is refused, with a number and a place, exactly when document 01's table says so, its checks taken in their order (the data
 -- type `Refusal` of specs/Meaning.antt). Assumes nothing.
-use Rattle.rules.proofs.Prelude.{_≡_, sym, _∙_, _↔_, List, [], _∷_, ℕ, _<_, arith, refuse, first, stop, _&_, surely, first-at, stops, turned-down, refused}
+use Rattle.rules.proofs.Prelude.{_≡_, refl, sym, _∙_, _↔_, List, [], _∷_, ℕ, _<_, arith, refuse, first, stop, _&_, surely, first-at, stops, turned-down, refused}
 use Rattle.rules.proofs.Prelude.{each-pass, each-stop, meant-stop}
-use Rattle.utf8.specs.Utf8.{textUpTo}
-use Rattle.utf8.proofs.Laws.{text-le, text-sound, text-longest}
+use Rattle.utf8.specs.Utf8.Judged.{cut, broken}
 use Rattle.names.proofs.Laws.{not-below}
-use Rattle.metadata.specs.Dictionary.{count, end, region, regionRules, entryRules, checks, verdict}
-use Rattle.metadata.specs.Meaning.{Texted, GoodEntry, LongestText, Refusal}
-use Rattle.metadata.specs.Meaning.Refusal.{too-long, empty, other-version, count-cut, start-sum, start-short, first-offset, end-sum, end-short, no-text, bad-range, not-above}
-use Rattle.metadata.proofs.Laws.{by-head, by-region}
-use Rattle.metadata.proofs.Means.{head-passed, by-entries, out, in-passed, passed-in, below-names, good-passed, checks-mean}
-
--- the longest text that a list starts with is the one that is measured
-measured : (r : List ℕ) (p : ℕ) → LongestText r p → textUpTo r ≡ p
-measured r p l =
-    omega (arith, l .longest (textUpTo r) (text-le r) (text-sound r), text-longest r p (omega arith) (l .is-text))
+use Rattle.metadata.specs.Dictionary.{count, end, entryRules, checks, verdict}
+use Rattle.metadata.specs.Meaning.{Texted, GoodEntry, Refusal}
+use Rattle.metadata.specs.Meaning.Refusal.{too-long, empty, other-version, count-cut, start-sum, start-short, first-offset, end-sum, end-short, cut-text, no-text, bad-range, not-above}
+use Rattle.metadata.proofs.Laws.{by-head}
+use Rattle.metadata.proofs.Means.{by-judged, by-entries, out, in-passed, passed-in, below-names, good-passed, checks-mean}
 
 -- the first entry that stops, stops all
 by-entry : (d : List ℕ) {k c p : ℕ} → Texted d → k < count d → ((j : ℕ) → j < k → GoodEntry d j) → first (entryRules d k) ≡ stop c p → checks d ≡ stop c p
@@ -33,9 +27,8 @@ is-due d (start-short b f h) = by-head d (first-at 5 _ (omega arith))
 is-due d (first-offset b h) = by-head d (first-at 6 _ (omega arith))
 is-due d (end-sum b z h) = by-head d (first-at 7 _ (omega arith))
 is-due d (end-short b z f h) = by-head d (first-at 8 _ (omega arith))
-is-due d (no-text {p = p} b l) =
-    let m : textUpTo (region d) ≡ p = measured (region d) p l in
-    by-region d (head-passed d b) (first-at 0 (regionRules (region d)) (omega arith)) ∙ stops _ (rw m)
+is-due d (cut-text h l b) = by-judged d h (cut l b) ∙ stops _ refl
+is-due d (no-text h l n) = by-judged d h (broken l n) ∙ stops _ refl
 is-due d (bad-range {k = k} t q g n) = by-entry d t q g (first-at 0 (entryRules d k) (surely (out d k) (λ f. n (passed-in d k f))))
 is-due d (not-above {k = k} t q g r s z n) =
     by-entry d t q g (first-at 1 (entryRules d k) (in-passed d k r & s & z & (sym (below-names d k z) ∙ not-below _ _ n)))

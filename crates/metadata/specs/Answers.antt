@@ -3,7 +3,7 @@ use mathlib.Core.List.{[], _∷_}
 use Prim.Native.Nat.{ℕ}
 use Rattle.rules.specs.Rules.{Answer, refuse, accept}
 use Rattle.metadata.specs.declared.Refusal.{Refusal}
-use Rattle.metadata.specs.declared.Refusal.the-variants.{TooLong, Empty, Version, Short, Sum, FirstOffset, NotUtf8, Range, NotAbove}
+use Rattle.metadata.specs.declared.Refusal.the-variants.{TooLong, Empty, Version, Short, Sum, FirstOffset, NotUtf8, Range, NotAbove, CutText}
 use Rattle.metadata.specs.declared.Verdict.{Verdict}
 use Rattle.metadata.specs.declared.Verdict.the-variants as verdict
 use Rattle.metadata.specs.declared.Entry.{Entry}
@@ -22,6 +22,7 @@ refusalNumber FirstOffset = 15
 refusalNumber (NotUtf8 p) = 16
 refusalNumber (Range k) = 17
 refusalNumber (NotAbove k) = 18
+refusalNumber (CutText p) = 19
 
 abbrev pub refusalPlace : Refusal → ℕ
 refusalPlace TooLong = 0
@@ -33,6 +34,7 @@ refusalPlace FirstOffset = 0
 refusalPlace (NotUtf8 p) = p
 refusalPlace (Range k) = k
 refusalPlace (NotAbove k) = k
+refusalPlace (CutText p) = p
 
 abbrev pub refused : Refusal → Answer
 refused r = refuse (refusalNumber r) (refusalPlace r)

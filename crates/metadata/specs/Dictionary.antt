@@ -7,7 +7,7 @@ use lib.Dec.{eqb, ltb}
 use lib.ListN.{length, drop, getD}
 use Rattle.width.specs.Width.{le}
 use Rattle.part.specs.Part.{part}
-use Rattle.utf8.specs.Utf8.{textUpTo}
+use Rattle.utf8.specs.Utf8.{textUpTo, isCut}
 use Rattle.names.specs.Order.{below}
 use Rattle.rules.specs.Rules.{Answer, Rule, Test, Found, accept, first, each, _orElse_, _otherwise_}
 use Rattle.rules.specs.Rules.Rule.{_⇒_at_}
@@ -71,7 +71,10 @@ headRules d =
     ∷ []
 
 abbrev pub regionRules : List ℕ → List Rule
-regionRules r = (textUpTo r <? length r ⇒ 16 at textUpTo r) ∷ []
+regionRules r =
+    (is (isCut r) ⇒ 19 at textUpTo r)
+    ∷ (textUpTo r <? length r ⇒ 16 at textUpTo r)
+    ∷ []
 
 -- the offsets of an entry fall, pass the region, or the second cuts a character
 abbrev pub outside : List ℕ → ℕ → ℕ → Test

@@ -4,8 +4,8 @@ use mathlib.Core.Path.{_≡_}
 use mathlib.Core.Bool.{true}
 use mathlib.Core.List.{List}
 use Prim.Native.Nat.{ℕ, _+_, _-_, _≤_, _<_}
-use lib.ListN.{length, take, getD}
-use Rattle.utf8.specs.Utf8.{Text, Cont}
+use lib.ListN.{length, drop, getD}
+use Rattle.utf8.specs.Utf8.{Text, Cont, Begins, LongestText}
 use Rattle.names.specs.Order.{Before}
 use Rattle.metadata.specs.Limits.{limit, u32Max}
 use Rattle.metadata.specs.Dictionary.{version, sorted, width, count, offset, start, end, region, name}
@@ -64,12 +64,6 @@ pub record Dictionary (d : List ℕ) (n e : ℕ) : Type 0 where
 
 -- WHEN EACH REFUSAL IS DUE
 
--- p is the length of the longest well-formed prefix of a region that is no text
-pub record LongestText (r : List ℕ) (p : ℕ) : Type 0 where
-  pub short : p < length r
-  pub is-text : Text (take p r)
-  pub longest : (n : ℕ) → n ≤ length r → Text (take n r) → n ≤ p
-
 pub data Refusal (d : List ℕ) : ℕ → ℕ → Type 0 where
   too-long : limit < length d → Refusal d 10 0
   empty : length d ≡ 0 → Refusal d 11 0
@@ -80,7 +74,8 @@ pub data Refusal (d : List ℕ) : ℕ → ℕ → Type 0 where
   first-offset : Placed d → (offset d 0 ≡ 0 → ⊥) → Refusal d 15 0
   end-sum : Placed d → offset d 0 ≡ 0 → u32Max < end d → Refusal d 14 0
   end-short : Placed d → offset d 0 ≡ 0 → end d ≤ u32Max → length d < end d → Refusal d 13 0
-  no-text : {p : ℕ} → Headed d → LongestText (region d) p → Refusal d 16 p
+  cut-text : {p : ℕ} → Headed d → LongestText (region d) p → Begins (drop p (region d)) → Refusal d 19 p
+  no-text : {p : ℕ} → Headed d → LongestText (region d) p → (Begins (drop p (region d)) → ⊥) → Refusal d 16 p
   bad-range : {k : ℕ} → Texted d → k < count d → ((j : ℕ) → j < k → GoodEntry d j) → (InRange d k → ⊥) → Refusal d 17 k
   not-above : {k : ℕ} → Texted d → k < count d → ((j : ℕ) → j < k → GoodEntry d j) → InRange d k → sorted d ≡ true → 0 < k
       → (Before (name d (k - 1)) (name d k) → ⊥) → Refusal d 18 k

@@ -20,7 +20,7 @@ pub const LIMIT: usize = 65_536;
 // The largest number of 32 bits: sums are worked in 64 bits and held to it.
 pub const U32_MAX: usize = 0xFFFF_FFFF;
 
-// One case for each of the refusals 10 to 18, with its place.
+// One case for each of the refusals 10 to 19, with its place.
 pub enum Refusal {
     TooLong,
     Empty,
@@ -31,6 +31,7 @@ pub enum Refusal {
     NotUtf8(usize),
     Range(usize),
     NotAbove(usize),
+    CutText(usize),
 }
 
 pub enum Verdict {
@@ -171,15 +172,16 @@ enum Outcome {
     Pass,
 }
 
-// Check 16.
+// Checks 19 and 16.
 fn check_text(region: &[u8]) -> Outcome
     ensures { λ r. ⌜ foundOf r ≡ first (regionRules (now (region .entry))) ⌝ }
 {
-    let good = utf8::valid_len(region);
-    if good < region.len() {
-        return Outcome::Refused(Refusal::NotUtf8(good));
+    let text = utf8::check(region);
+    match text {
+        utf8::Verdict::Whole => Outcome::Pass,
+        utf8::Verdict::Cut(p) => Outcome::Refused(Refusal::CutText(p)),
+        utf8::Verdict::Broken(p) => Outcome::Refused(Refusal::NotUtf8(p)),
     }
-    Outcome::Pass
 }
 
 // Whether the offsets `a` and `e` of an entry fall, pass the region, or the second cuts a character.
@@ -334,7 +336,7 @@ fn check_entries(dict: &[u8], region: &[u8], h: Header) -> Outcome
     Outcome::Pass
 }
 
-// Checks 16 to 18, after those of the header.
+// Checks 16 to 19, after those of the header.
 fn check_region(dict: &[u8], h: Header) -> Outcome
     requires { ⌜ HeaderOf (now dict) h ⌝ }
     ensures { λ r. ⌜ foundOf r ≡ checks (now (dict .entry)) ⌝ }

@@ -36,7 +36,7 @@ unfolding tailsOf
 tails-complete end s = refl
 tails-complete {l} {h} (next {b = b} p q r) s = rw (le-leb l b p, le-leb b h q) (tails-complete r s)
 
-tails-sound : (l h n : ℕ) (s : List ℕ) → tailsOf l h n s ≡ true → (n ≤ length s) × Tails l h n (take n s)
+pub tails-sound : (l h n : ℕ) (s : List ℕ) → tailsOf l h n s ≡ true → (n ≤ length s) × Tails l h n (take n s)
 unfolding tailsOf
 tails-sound l h zero s e = (zero-le, end)
 tails-sound l h (suc n) [] e = false-true e

@@ -1,5 +1,6 @@
 pub mod Table
 pub mod Laws
+pub mod Begins
 pub mod Local
 pub mod Bounds
 pub mod Pinned

@@ -2,7 +2,8 @@
 use mathlib.Core.Path.{_≡_, sym, _∙_}
 use mathlib.Core.List.{List}
 use Prim.Native.Nat.{ℕ}
-use Rattle.utf8.specs.Promises.{ValidLenPromise}
+use Rattle.utf8.specs.declared.Verdict.{Verdict}
+use Rattle.utf8.specs.Promises.{CheckPromise}
 
-pub valid-len-pinned : (s : List ℕ) (r q : ℕ) → ValidLenPromise s r → ValidLenPromise s q → r ≡ q
-valid-len-pinned s r q a b = a ∙ sym b
+pub check-pinned : (s : List ℕ) (r q : Verdict) → CheckPromise s r → CheckPromise s q → r ≡ q
+check-pinned s r q a b = a ∙ sym b

@@ -50,15 +50,16 @@ pub lead-is : (lo hi : ℕ) {a : ℕ} (x : Lead) → Within table lo hi x → lo
 unfolding leadOf
 lead-is lo hi {a} x w p q = look-is table lo hi a x w p q
 
--- No first byte is from 80 to BF, and what follows it is.
+-- No first byte is from 80 to BF, and what follows it is; some byte may follow.
 abbrev fine : List Row → Bool
 fine [] = true
-fine (row f t l h n ∷ rows) = (ltb t 0x80 || ltb 0xBF f) && (leb 0x80 l && (leb h 0xBF && fine rows))
+fine (row f t l h n ∷ rows) = (ltb t 0x80 || ltb 0xBF f) && (leb 0x80 l && (leb h 0xBF && (leb l h && fine rows)))
 
 pub record Followed (a l h : ℕ) : Type 0 where
   pub starts : Cont a → ⊥
   pub low : 0x80 ≤ l
   pub high : h ≤ 0xBF
+  pub some : l ≤ h
 
 starts-none : (f t a : ℕ) → (ltb t 0x80 || ltb 0xBF f) ≡ true → (leb f a && leb a t) ≡ true → Cont a → ⊥
 starts-none f t a e g c =
@@ -75,15 +76,16 @@ look-followed (row f t l′ h′ n′ ∷ rows) a {l} {h} {n} g e =
     let u = both (ltb t 0x80 || ltb 0xBF f) _ g in
     let v = both (leb 0x80 l′) _ (u .1) in
     let w = both (leb h′ 0xBF) _ (v .1) in
-    go (leb f a && leb a t) refl (u .0) (leb-true 0x80 l′ (v .0)) (leb-true h′ 0xBF (w .0)) (look-followed rows a (w .1)) e
+    let x = both (leb l′ h′) _ (w .1) in
+    go (leb f a && leb a t) refl (u .0) (leb-true 0x80 l′ (v .0)) (leb-true h′ 0xBF (w .0)) (leb-true l′ h′ (x .0)) (look-followed rows a (x .1)) e
   where
-    go : (b : Bool) → (leb f a && leb a t) ≡ b → (ltb t 0x80 || ltb 0xBF f) ≡ true → 0x80 ≤ l′ → h′ ≤ 0xBF
+    go : (b : Bool) → (leb f a && leb a t) ≡ b → (ltb t 0x80 || ltb 0xBF f) ≡ true → 0x80 ≤ l′ → h′ ≤ 0xBF → l′ ≤ h′
         → (look rows a ≡ Seq l h n → Followed a l h) → cond b (Seq l′ h′ n′) (look rows a) ≡ Seq l h n → Followed a l h
-    go true k s p q r e =
+    go true k s p q y r e =
         let i : l′ ≡ l = cc in
         let j : h′ ≡ h = cc in
-        record { starts = starts-none f t a s k; low = omega arith; high = omega arith }
-    go false k s p q r e = r e
+        record { starts = starts-none f t a s k; low = omega arith; high = omega arith; some = omega arith }
+    go false k s p q y r e = r e
 
 pub followed : {a l h n : ℕ} → leadOf a ≡ Seq l h n → Followed a l h
 unfolding leadOf

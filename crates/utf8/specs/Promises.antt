@@ -2,8 +2,9 @@
 use mathlib.Core.Path.{_≡_}
 use mathlib.Core.List.{List}
 use Prim.Native.Nat.{ℕ}
-use Rattle.utf8.specs.Utf8.{textUpTo}
+use Rattle.utf8.specs.declared.Verdict.{Verdict}
+use Rattle.utf8.specs.Utf8.{verdict}
 
--- the length of the longest well-formed prefix
-abbrev pub ValidLenPromise : List ℕ → ℕ → Type 0
-ValidLenPromise s r = r ≡ textUpTo s
+-- a text; or cut, or broken, and the length of the longest well-formed prefix
+abbrev pub CheckPromise : List ℕ → Verdict → Type 0
+CheckPromise s r = r ≡ verdict s

@@ -1,14 +1,16 @@
--- UTF-8 by RFC 3629, section 4 (document 01, "Dictionary bytes"): which bytes are a character, what a text is, and how long a text a list
--- starts with. Assumes nothing.
+-- UTF-8 by RFC 3629, section 4 (document 01, "Dictionary bytes"): which bytes are a character, what a text is, how long a text a list starts
+-- with, and whether it is cut there (document 02, b). Assumes nothing.
 use mathlib.Core.Path.{_≡_}
 use mathlib.Core.Bool.{Bool, true, false, cond, _&&_}
-use mathlib.Core.List.{List, [], _∷_}
-use Prim.Native.Nat.{ℕ, zero, suc, _≤_}
-use lib.Dec.{leb}
-use lib.ListN.{take, drop}
+use mathlib.Core.List.{List, [], _∷_, _++_}
+use Prim.Native.Nat.{ℕ, zero, suc, _≤_, _<_}
+use lib.Dec.{leb, ltb}
+use lib.ListN.{length, take, drop}
 use Rattle.walk.specs.Walk.{Items, upTo}
 use Rattle.utf8.specs.declared.Lead.{Lead}
 use Rattle.utf8.specs.declared.Lead.the-variants.{Bad, Seq}
+use Rattle.utf8.specs.declared.Verdict.{Verdict}
+use Rattle.utf8.specs.declared.Verdict.the-variants.{Whole, Cut, Broken}
 
 -- THE TABLE: a first byte from `from` to `to` is followed by `rest` bytes, the first of them from `lo` to `hi`. Nothing else.
 
@@ -58,6 +60,25 @@ Cont b = (0x80 ≤ b) × (b ≤ 0xBF)
 abbrev pub Bound : List ℕ → ℕ → Type 0
 Bound s i = Text (take i s) × Text (drop i s)
 
+-- A PROPER BEGINNING of a character: it is not empty, and there are further bytes, at least one, with which it is a character.
+pub record Begins (s : List ℕ) : Type 0 where
+  pub some : 0 < length s
+  pub further : List ℕ
+  pub at-least-one : 0 < length further
+  pub whole : Char (s ++ further)
+
+-- p is the length of the longest well-formed prefix of a list that is no text
+pub record LongestText (s : List ℕ) (p : ℕ) : Type 0 where
+  pub short : p < length s
+  pub is-text : Text (take p s)
+  pub longest : (n : ℕ) → n ≤ length s → Text (take n s) → n ≤ p
+
+-- WHAT A LIST IS: a text; or cut, what is left after its longest well-formed prefix being a proper beginning; or broken, it being none.
+pub data Judged (s : List ℕ) : Verdict → Type 0 where
+  whole : Text s → Judged s Whole
+  cut : {p : ℕ} → LongestText s p → Begins (drop p s) → Judged s (Cut p)
+  broken : {p : ℕ} → LongestText s p → (Begins (drop p s) → ⊥) → Judged s (Broken p)
+
 -- THE SAME AS FUNCTIONS.
 
 unfoldable pub tailsOf : ℕ → ℕ → ℕ → List ℕ → Bool
@@ -77,3 +98,19 @@ char (a ∷ s) = charBy (leadOf a) s
 -- the length of the longest well-formed prefix
 unfoldable pub textUpTo : List ℕ → ℕ
 textUpTo s = upTo char s
+
+-- a proper beginning has fewer bytes than its first one asks for, and all of them fit
+abbrev pub beginsBy : Lead → List ℕ → Bool
+beginsBy Bad s = false
+beginsBy (Seq lo hi rest) s = ltb (length s) rest && tailsOf lo hi (length s) s
+
+unfoldable pub begins : List ℕ → Bool
+begins [] = false
+begins (a ∷ s) = beginsBy (leadOf a) s
+
+-- whether a list is cut
+unfoldable pub isCut : List ℕ → Bool
+isCut s = begins (drop (textUpTo s) s)
+
+unfoldable pub verdict : List ℕ → Verdict
+verdict s = cond (isCut s) (Cut (textUpTo s)) (cond (ltb (textUpTo s) (length s)) (Broken (textUpTo s)) Whole)

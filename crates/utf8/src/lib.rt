@@ -3,9 +3,17 @@ ghost use mathlib.Core.Path.{_≡_};
 ghost use mathlib.Core.Bool.{true, false};
 ghost use Prim.Native.Nat.{_+_, _≤_};
 ghost use lib.ListN.{length, drop};
-ghost use Rattle.utf8.specs.Utf8.{leadOf, tailsOf, char};
+ghost use Rattle.utf8.specs.Utf8.{leadOf, tailsOf, char, textUpTo, begins};
 ghost use Rattle.utf8.specs.Steps.{Reached, AtMost, wrongOf, Rights};
-ghost use Rattle.utf8.specs.Promises.{ValidLenPromise};
+ghost use Rattle.utf8.specs.Promises.{CheckPromise};
+
+// The whole is a text; or it is cut, or broken, after the longest well-formed text that it starts with, whose length is given: what is left
+// is a proper beginning of a character, or it is not (Utf8Error: error_len is None, or not).
+pub enum Verdict {
+    Whole,
+    Cut(usize),
+    Broken(usize),
+}
 
 // How many bytes are judged at once, each with the three before it.
 const BLOCK: usize = 64;
@@ -242,9 +250,9 @@ fn begin(s: &[u8]) -> usize
     last_start(s, right_up_to(s, BLOCK))
 }
 
-// The length of the longest well-formed text that `s` starts with.
-pub fn valid_len(s: &[u8]) -> usize
-    ensures { λ r. ⌜ ValidLenPromise (now (s .entry)) r ⌝ }
+// The length of the longest well-formed text that `s` starts with (Utf8Error: valid_up_to).
+fn valid_len(s: &[u8]) -> usize
+    ensures { λ r. ⌜ r ≡ textUpTo (now (s .entry)) ⌝ }
 {
     let mut at = begin(s);
     while at < s.len() {
@@ -255,4 +263,39 @@ pub fn valid_len(s: &[u8]) -> usize
         at += n;
     }
     at
+}
+
+// Whether what stands from `at` to the end is a proper beginning of a character: fewer bytes than the first one asks for, and all of them fit.
+fn begins_at(s: &[u8], at: usize) -> bool
+    ensures { λ r. ⌜ r ≡ begins (drop at (now (s .entry))) ⌝ }
+{
+    if s.len() <= at {
+        return false;
+    }
+    let lead = classify(s[at]);
+    match lead {
+        Lead::Bad => false,
+        Lead::Seq { lo, hi, rest } => {
+            let left = s.len() - at - 1;
+            if rest <= left {
+                return false;
+            }
+            tails(s, at + 1, lo, hi, left)
+        }
+    }
+}
+
+// Whether `s` is a text, and where not, up to where it is one and whether it is cut there.
+pub fn check(s: &[u8]) -> Verdict
+    ensures { λ r. ⌜ CheckPromise (now (s .entry)) r ⌝ }
+{
+    let at = valid_len(s);
+    let end = s.len();
+    if at == end {
+        return Verdict::Whole;
+    }
+    if begins_at(s, at) {
+        return Verdict::Cut(at);
+    }
+    Verdict::Broken(at)
 }

@@ -1,12 +1,19 @@
--- `metadata::check_text` meets its contract: the one row of its table. Assumes nothing.
-use Rattle.rules.proofs.Prelude.{sym, ap, _∙_, arith, needs, stop, first-at, first-pass}
+-- `metadata::check_text` meets its contract: its table says what the text's verdict is. Assumes nothing.
+use Rattle.rules.proofs.Prelude.{_≡_, sym, ap, _∙_, needs, first}
+use Rattle.metadata.specs.Dictionary.{regionRules}
+use Rattle.metadata.proofs.Laws.{foundIn, by-text}
 use Rattle.metadata.proofs.check_text.Statement.{statement}
 use Rattle.metadata.proofs.check_text.Tie as tie
+
+-- what the text's check answered is what the region's table says
+told : (c : tie.After-check) → foundIn (c .check .result) ≡ first (regionRules (c .before .before .args .region .now))
+told c = ap foundIn (c .check .ensures) ∙ sym (by-text _)
 
 pub check-text-spec : {M : Type 1} → statement M
 check-text-spec =
     tie.close
     (tie.spec
-    (λ c κs. search needs)  -- valid-len-requires
-    (λ c. ap (stop 16) (c .before .valid-len .ensures) ∙ sym (first-at 0 _ (omega arith)))  -- returns
-    (λ c. sym (first-pass _ (omega arith))))  -- returns-2
+    (λ c κs. search needs) (λ c. search needs) (λ c. search needs) (λ c. search needs)
+    (λ c. sym (ap foundIn (c .enum-told .given .1)) ∙ told (c .before .before))  -- returns
+    (λ c. sym (ap foundIn (c .before .text .given .1)) ∙ told (c .before .before .before))  -- returns-2
+    (λ c. sym (ap foundIn (c .before .text2 .given .1)) ∙ told (c .before .before .before)))  -- returns-3

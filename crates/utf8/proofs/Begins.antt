@@ -1,0 +1,151 @@
+-- The proper beginnings of characters are those that `begins` tells, and so a list is what `verdict` says of it: a text, cut, or broken.
+-- Assumes nothing.
+use mathlib.Core.Path.{_≡_, refl, sym, ap, _∙_}
+use mathlib.Core.Bool.{Bool, true, false, cond, _&&_}
+use mathlib.Core.List.{List, [], _∷_, _++_}
+use mathlib.Core.Logic.{_↔_}
+use Prim.Native.Nat.{ℕ, zero, suc, _+_, _-_, _≤_, _<_}
+use native.Mathlib.Numerals.{add-one}
+use native.Mathlib.Omega.{arith}
+use borrow.Author.Tests.{le-leb, lt-ltb, le-ltb, ltb-true, ltb-false}
+use lib.Dec.{ltb}
+use lib.ListN.{length, take, drop, getD, drop-of-length-le, length-append, length-drop}
+use lib.Seq.{drop-cons, take-length}
+use Rattle.rules.proofs.Laws.{false-true, both}
+use Rattle.utf8.specs.declared.Lead.{Lead}
+use Rattle.utf8.specs.declared.Lead.the-variants.{Bad, Seq}
+use Rattle.utf8.specs.declared.Verdict.{Verdict}
+use Rattle.utf8.specs.declared.Verdict.the-variants.{Whole, Cut, Broken}
+use Rattle.utf8.specs.Utf8.{Tails, Char, Text, Begins, LongestText, Judged, leadOf, tailsOf, textUpTo, beginsBy, begins, isCut, verdict}
+use Rattle.utf8.specs.Utf8.Tails.{end, next}
+use Rattle.utf8.specs.Utf8.Char.{char-of}
+use Rattle.utf8.specs.Utf8.Judged.{whole, cut, broken}
+use Rattle.utf8.proofs.Table.{followed}
+use Rattle.utf8.proofs.Laws.{tails-length, tails-sound, text-le, text-sound, text-longest, text-whole, text-all}
+
+-- A PROPER BEGINNING.
+
+-- bytes that fit have m further ones with which they fit
+record Filled (l h n : ℕ) (s : List ℕ) (m : ℕ) : Type 0 where
+  further : List ℕ
+  many : length further ≡ m
+  fits : Tails l h n (s ++ further)
+
+fill : (l h : ℕ) → l ≤ h → (m : ℕ) → Filled l h m [] m
+fill l h p zero = record { further = []; many = refl; fits = end }
+fill l h p (suc m) =
+    let f = fill 0x80 0xBF (omega arith) m in
+    record { further = l ∷ f .further; many = ap suc (f .many); fits = next {lo = l} {hi = h} {b = l} (omega arith) p (f .fits) }
+
+filled : {l h n : ℕ} {s : List ℕ} → l ≤ h → Tails l h n s → (k m : ℕ) → k ≡ n + m → Filled l h k s m
+filled {l} {h} p end k m e = let k-is : k ≡ m = omega arith in rw k-is (fill l h p m)
+filled p (next u v r) zero m e = absurd (omega arith)
+filled p (next u v r) (suc k) m e =
+    let f = filled (omega arith) r k m (omega arith) in
+    record { further = f .further; many = f .many; fits = next u v (f .fits) }
+
+-- and where bytes fit, so do the first of them
+front : {l h n : ℕ} (s t : List ℕ) → Tails l h n (s ++ t) → tailsOf l h (length s) s ≡ true
+unfolding tailsOf
+front [] t x = refl
+front {l} {h} (b ∷ s) t (next p q r) = rw (le-leb l b p, le-leb b h q) (front s t r)
+
+is-beginning : (s : List ℕ) → begins s ≡ true → Begins s
+unfolding begins
+is-beginning [] e = false-true e
+is-beginning (a ∷ s) e = by-lead (leadOf a) refl e
+  where
+    by-lead : (x : Lead) → leadOf a ≡ x → beginsBy x s ≡ true → Begins (a ∷ s)
+    by-lead Bad l e = false-true e
+    by-lead (Seq lo hi n) l e =
+        let u = both (ltb (length s) n) _ e in
+        let few = ltb-true (length s) n (u .0) in
+        let fits : Tails lo hi (length s) s = rw take-length at (tails-sound lo hi (length s) s (u .1) .1) in
+        let f = filled (followed l .some) fits n (n - length s) (omega arith) in
+        record { some = omega arith; further = f .further; at-least-one = omega (arith, f .many); whole = char-of l (f .fits) }
+
+begins-one : (s : List ℕ) → Begins s → begins s ≡ true
+unfolding begins
+begins-one [] b = absurd (omega (arith, b .some))
+begins-one (a ∷ s) b = by-char (b .further) (b .at-least-one) (b .whole)
+  where
+    by-char : (t : List ℕ) → 0 < length t → Char (a ∷ (s ++ t)) → beginsBy (leadOf a) s ≡ true
+    by-char t p (char-of {rest = n} l x) =
+        let few : length s < n = omega (arith, length-append s t, tails-length x) in
+        rw (l, lt-ltb (length s) n few) (front s t x)
+
+-- THE THEOREM: the function decides it
+pub begins-is : (s : List ℕ) → (begins s ≡ true) ↔ Begins s
+begins-is s = (is-beginning s, begins-one s)
+
+begins-not : (s : List ℕ) → (Begins s → ⊥) → begins s ≡ false
+begins-not s n = go (begins s) refl
+  where
+    go : (b : Bool) → begins s ≡ b → b ≡ false
+    go true e = absurd (n (is-beginning s e))
+    go false e = refl
+
+-- What code goes by, at a place of the list.
+module _ (at : ℕ) (s : List ℕ) where
+  pub begins-end : length s ≤ at → begins (drop at s) ≡ false
+  unfolding begins
+  begins-end q = rw (drop-of-length-le s q)
+
+  pub begins-bad : at < length s → leadOf (getD s at 0) ≡ Bad → begins (drop at s) ≡ false
+  unfolding begins
+  begins-bad q e = rw (drop-cons s at 0 q, e)
+
+  module _ {l h n : ℕ} (q : at < length s) (e : leadOf (getD s at 0) ≡ Seq l h n) where
+    by-seq : begins (drop at s) ≡ (ltb (length s - at - 1) n && tailsOf l h (length s - at - 1) (drop (at + 1) s))
+    unfolding begins
+    by-seq =
+        let long : length (drop (suc at) s) ≡ length s - at - 1 = length-drop (suc at) s ∙ omega arith in
+        rw (drop-cons s at 0 q, e, long, add-one at)
+
+    pub begins-long : n ≤ length s - at - 1 → begins (drop at s) ≡ false
+    begins-long p = by-seq ∙ rw (le-ltb (length s - at - 1) n p)
+
+    pub begins-short : length s - at - 1 < n → begins (drop at s) ≡ tailsOf l h (length s - at - 1) (drop (at + 1) s)
+    begins-short p = by-seq ∙ rw (lt-ltb (length s - at - 1) n p)
+
+-- THE VERDICT, by what is left after the longest text.
+module _ (s : List ℕ) (p : ℕ) (measured : textUpTo s ≡ p) where
+  pub left-cut : begins (drop p s) ≡ true → verdict s ≡ Cut p
+  unfolding verdict isCut
+  left-cut b = rw (measured, b)
+
+  pub left-broken : begins (drop p s) ≡ false → p < length s → verdict s ≡ Broken p
+  unfolding verdict isCut
+  left-broken b l = rw (measured, b, lt-ltb p (length s) l)
+
+  pub left-none : p ≡ length s → verdict s ≡ Whole
+  unfolding verdict isCut
+  left-none e = rw (measured, begins-end p s (omega arith), le-ltb p (length s) (omega arith))
+
+longest-is : (s : List ℕ) (p : ℕ) → LongestText s p → textUpTo s ≡ p
+longest-is s p l =
+    omega (arith, l .longest (textUpTo s) (text-le s) (text-sound s), text-longest s p (omega arith) (l .is-text))
+
+is-judged : (s : List ℕ) (r : Verdict) → Judged s r → verdict s ≡ r
+is-judged s Whole (whole t) = left-none s (length s) (text-whole s t) refl
+is-judged s (Cut p) (cut l b) = left-cut s p (longest-is s p l) (begins-one (drop p s) b)
+is-judged s (Broken p) (broken l n) = left-broken s p (longest-is s p l) (begins-not (drop p s) n) (l .short)
+
+pub judged : (s : List ℕ) → Judged s (verdict s)
+unfolding verdict isCut
+judged s = go (begins (drop (textUpTo s) s)) refl (ltb (textUpTo s) (length s)) refl
+  where
+    longest : textUpTo s < length s → LongestText s (textUpTo s)
+    longest h = record { short = h; is-text = text-sound s; longest = text-longest s }
+
+    go : (b : Bool) → begins (drop (textUpTo s) s) ≡ b → (c : Bool) → ltb (textUpTo s) (length s) ≡ c
+        → Judged s (cond b (Cut (textUpTo s)) (cond c (Broken (textUpTo s)) Whole))
+    go true e c f =
+        let b = is-beginning (drop (textUpTo s) s) e in
+        cut (longest (omega (arith, b .some, length-drop (textUpTo s) s))) b
+    go false e true f = broken (longest (ltb-true _ _ f)) (λ b. false-true (sym e ∙ begins-one _ b))
+    go false e false f = whole (text-all s (ltb-false _ _ f))
+
+-- THE THEOREM: what `check` answers is what the list is
+pub judges : (s : List ℕ) (r : Verdict) → (r ≡ verdict s) ↔ Judged s r
+judges s r = (λ e. rw e (judged s), λ j. sym (is-judged s r j))
