@@ -1,8 +1,8 @@
--- Document 01's starred worked cases: the definitions answer each as the document does. Assumes nothing.
+-- The worked cases of documents 01 and 02: the definitions answer each as the document does. Assumes nothing.
 use Rattle.rules.proofs.Prelude.{_≡_, refl, map, first, each, _orElse_, _otherwise_}
 use Rattle.width.specs.Width.{le, bytesOf}
 use Rattle.walk.specs.Walk.{upTo}
-use Rattle.utf8.specs.Utf8.{leadOf, tailsOf, char, textUpTo}
+use Rattle.utf8.specs.Utf8.{leadOf, tailsOf, char, textUpTo, begins, isCut}
 use Rattle.names.specs.Order.{compareOf, below}
 use Rattle.names.specs.Search.{same, seek}
 use Rattle.metadata.specs.Limits.{limit, u32Max}
@@ -15,7 +15,7 @@ use Rattle.lichenhusk.specs.Strip.{stripAfter}
 use Rattle.lichenhusk.specs.Worked.{Asked, Told, tell, starred}
 
 pub worked : map (λ (c : Asked × Told). tell (c .0)) starred ≡ map (λ (c : Asked × Told). c .1) starred
-unfolding le bytesOf upTo leadOf tailsOf char textUpTo compareOf below same seek
+unfolding le bytesOf upTo leadOf tailsOf char textUpTo begins isCut compareOf below same seek
     first each _orElse_ _otherwise_ limit u32Max
     dictionary.version dictionary.sorted dictionary.width dictionary.count dictionary.offset dictionary.start dictionary.end
     dictionary.region dictionary.name dictionary.entryRules dictionary.checks dictionary.verdict

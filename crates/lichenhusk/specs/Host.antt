@@ -17,12 +17,12 @@ use Rattle.listing.specs.Meaning.{Listed, NoRoom}
 
 pub data DictionarySays (d : List ℕ) : ℕ → ℕ → ℕ → ℕ → ℕ → Type 0 where
   accepted : {n e : ℕ} → dictionary.Dictionary d n e → DictionarySays d 0 n 0 e 0
-  refused : {c p : ℕ} → 10 ≤ c → c < 19 → dictionary.Refusal d c p → DictionarySays d c 0 0 0 p
+  refused : {c p : ℕ} → 10 ≤ c → c < 20 → dictionary.Refusal d c p → DictionarySays d c 0 0 0 p
 
 pub data NameSays (d : List ℕ) (i : ℕ) : ℕ → ℕ → ℕ → ℕ → ℕ → Type 0 where
   named : {a e : ℕ} → dictionary.Named d i a e → NameSays d i 0 0 a e 0
   no-entry : dictionary.NoEntry d i → NameSays d i 31 0 0 0 0
-  refused : {c p : ℕ} → 10 ≤ c → c < 19 → dictionary.Refusal d c p → NameSays d i c 0 0 0 p
+  refused : {c p : ℕ} → 10 ≤ c → c < 20 → dictionary.Refusal d c p → NameSays d i c 0 0 0 p
 
 pub data LayerSays (d o : List ℕ) : ℕ → ℕ → ℕ → ℕ → ℕ → Type 0 where
   accepted : {n v e : ℕ} → Layer d o n v e → LayerSays d o 0 n v e 0

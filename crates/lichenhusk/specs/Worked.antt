@@ -1,5 +1,5 @@
--- Document 01's starred worked cases, in one table: what is asked, and what the document says. proofs/Worked.antt proves that the definitions
--- say the same. Assumes nothing.
+-- Document 01's starred worked cases, then those of document 02's requests, in one table: what is asked, and what the document says.
+-- proofs/Worked.antt proves that the definitions say the same. Assumes nothing.
 use mathlib.Core.List.{List, [], _∷_}
 use Prim.Native.Nat.{ℕ}
 use lib.ListN.{replicate}
@@ -47,7 +47,7 @@ rol = 0x72 ∷ 0x6F ∷ 0x6C ∷ []
 abbrev pub roll : List ℕ
 roll = 0x72 ∷ 0x6F ∷ 0x6C ∷ 0x6C ∷ []
 
--- THE TABLE
+-- THE TABLE; the last row is request b)'s
 abbrev pub starred : List (Asked × Told)
 starred =
     (verdict (0x01 ∷ 0x00 ∷ 0x00 ∷ []), answers (accept (0 ∷ 3 ∷ [])))
@@ -70,4 +70,5 @@ starred =
     ∷ (layer D (0x02 ∷ 0x01 ∷ 0x02 ∷ 0x00 ∷ 0x00 ∷ []), answers (refuse 25 0))
     ∷ (layer D (0x02 ∷ 0x02 ∷ 0x01 ∷ 0x00 ∷ 0x00 ∷ 0x00 ∷ 0x00 ∷ []), answers (refuse 26 1))
     ∷ (layer D (0x02 ∷ 0x01 ∷ 0x00 ∷ 0x02 ∷ 0x01 ∷ 0x00 ∷ []), answers (refuse 27 0))
+    ∷ (verdict (0x01 ∷ 0x01 ∷ 0x00 ∷ 0x01 ∷ 0xC3 ∷ []), answers (refuse 19 0))
     ∷ []

@@ -6,7 +6,7 @@ use Rattle.object.specs.Object.{count, offset, start, end, headRules, na
 use Rattle.object.specs.Meaning.{Layer}
 use Rattle.object.proofs.Laws.{count-below, start-before, end-is}
 
--- the layer's numbers are the dictionary's, 10 to 18, and 20 to 27, so that none is taken for another answer's
+-- the layer's numbers are the dictionary's, 10 to 19, and 20 to 27, so that none is taken for another answer's
 abbrev Ours : ℕ → ℕ → Type 0
 Ours c p = (10 ≤ c) × (c < 28) × (p < 4294967296)
 

@@ -44,7 +44,7 @@ fn answer(number: usize, start: usize, end: usize) -> Words
     }
 }
 
-// Refusals 10 to 18.
+// Refusals 10 to 19.
 fn of_dictionary_refusal(r: metadata::Refusal) -> Words
     ensures { λ w. ⌜ listOf w ≡ fieldWords (dictionaryRefused r) ⌝ }
 {
@@ -58,6 +58,7 @@ fn of_dictionary_refusal(r: metadata::Refusal) -> Words
         metadata::Refusal::NotUtf8(p) => refusal(16, p),
         metadata::Refusal::Range(k) => refusal(17, k),
         metadata::Refusal::NotAbove(k) => refusal(18, k),
+        metadata::Refusal::CutText(p) => refusal(19, p),
     }
 }
 
