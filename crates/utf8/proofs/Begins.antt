@@ -122,7 +122,8 @@ module _ (s : List ℕ) (p : ℕ) (measured : textUpTo s ≡ p) where
   unfolding verdict isCut
   left-none e = rw (measured, begins-end p s (omega arith), le-ltb p (length s) (omega arith))
 
-longest-is : (s : List ℕ) (p : ℕ) → LongestText s p → textUpTo s ≡ p
+-- the longest text is the one that is measured
+pub longest-is : (s : List ℕ) (p : ℕ) → LongestText s p → textUpTo s ≡ p
 longest-is s p l =
     omega (arith, l .longest (textUpTo s) (text-le s) (text-sound s), text-longest s p (omega arith) (l .is-text))
 

@@ -13,7 +13,7 @@ use lib.ListN.{length, take, drop, getD, drop-of-length-le, length-drop}
 use lib.Seq.{drop-cons, take-length}
 use Rattle.rules.proofs.Laws.{false-true, both}
 use Rattle.walk.specs.Walk.{Finds}
-use Rattle.walk.proofs.Laws.{upTo-le, upTo-sound, upTo-longest, upTo-end, upTo-next, upTo-whole}
+use Rattle.walk.proofs.Laws.{upTo-le, upTo-sound, upTo-left, upTo-longest, upTo-end, upTo-next, upTo-whole}
 use Rattle.utf8.specs.declared.Lead.{Lead}
 use Rattle.utf8.specs.declared.Lead.the-variants.{Bad, Seq}
 use Rattle.utf8.specs.Utf8.{Tails, Char, Text, leadOf, tailsOf, charBy, char, textUpTo}
@@ -133,6 +133,10 @@ text-le s = upTo-le char s
 pub text-sound : (s : List ℕ) → Text (take (textUpTo s) s)
 unfolding textUpTo
 text-sound s = upTo-sound Char char chars s
+
+pub text-left : (s : List ℕ) → char (drop (textUpTo s) s) ≡ 0
+unfolding textUpTo
+text-left s = upTo-left Char char chars s
 
 pub text-longest : (s : List ℕ) (n : ℕ) → n ≤ length s → Text (take n s) → n ≤ textUpTo s
 unfolding textUpTo

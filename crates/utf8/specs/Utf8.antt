@@ -67,6 +67,11 @@ pub record Begins (s : List ℕ) : Type 0 where
   pub at-least-one : 0 < length further
   pub whole : Char (s ++ further)
 
+-- further bytes with which a list is a text (proofs/Truncated.antt: a list that is none has them exactly if it is cut)
+pub record Completed (s : List ℕ) : Type 0 where
+  pub further : List ℕ
+  pub is-text : Text (s ++ further)
+
 -- p is the length of the longest well-formed prefix of a list that is no text
 pub record LongestText (s : List ℕ) (p : ℕ) : Type 0 where
   pub short : p < length s

@@ -81,6 +81,21 @@ module _ (Item : List ℕ → Type 0) (step : List ℕ → ℕ) (F : Finds Item 
       rw (append-assoc c s t, upTo-more step (length c) (c ++ (s ++ t)) (F .complete c (s ++ t) i) (F .filled c i) (simp length-append (omega arith)), drop-append-seam)
       (omega (arith, upTo-items r t, length-append c s))
 
+  -- and what it leaves starts with no item
+  pub upTo-left : (s : List ℕ) → step (drop (upTo step s) s) ≡ 0
+  upTo-left s = go (step left) refl
+    where
+      left : List ℕ
+      left = drop (upTo step s) s
+
+      none-passed : upTo step left ≡ 0
+      none-passed =
+          omega (arith, length-take-le (upTo step s) s (upTo-le step s), ap (upTo step) (take-append-drop (upTo step s) s), upTo-items (upTo-sound s) left)
+
+      go : (n : ℕ) → step left ≡ n → n ≡ 0
+      go zero e = refl
+      go (suc n) e = absurd (omega (arith, none-passed, upTo-more step (suc n) left e (omega arith) (omega (arith, F .inside left))))
+
   -- and no longer one is: a row that the list starts with is at most as long
   pub upTo-longest : (s : List ℕ) (n : ℕ) → n ≤ length s → Items Item (take n s) → n ≤ upTo step s
   upTo-longest s n h r =
