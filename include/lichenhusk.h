@@ -134,8 +134,9 @@ enum lichenhusk_code {
     LICHENHUSK_DICTIONARY_OVERFLOW = 14,
     /* The dictionary's first offset is not 0. */
     LICHENHUSK_DICTIONARY_FIRST_OFFSET = 15,
-    /* The names are not UTF-8. The place: how many bytes of them, from the
-     * first name's first byte, are well formed. */
+    /* The names are not UTF-8, and no further bytes would make them that. The
+     * place: how many bytes of them, from the first name's first byte, are well
+     * formed. */
     LICHENHUSK_DICTIONARY_NOT_UTF8 = 16,
     /* An entry's offsets fall, pass the names' end or cut a character. The
      * place: the entry. */
@@ -143,6 +144,10 @@ enum lichenhusk_code {
     /* The dictionary says that it is sorted, and an entry's name is not above
      * the one before. The place: the entry. */
     LICHENHUSK_DICTIONARY_ORDER = 18,
+    /* The names end inside a character: what is left after the well-formed
+     * bytes is the beginning of one that further bytes would complete. The text
+     * was cut; ask for the rest. Checked where 16 is, and the place is 16's. */
+    LICHENHUSK_DICTIONARY_TEXT_CUT = 19,
 
     /* The object is longer than 65,536 bytes. */
     LICHENHUSK_OBJECT_TOO_LONG = 20,
@@ -190,7 +195,7 @@ static inline uint32_t lichenhusk_word(const uint8_t *strip, enum lichenhusk_wor
  *    is the object's bytes from start to end. The end is the object's trimmed
  *    end, so other children may follow within; the child may have no bytes.
  * 1: there is no such field.
- * Otherwise a refusal: 10 to 18, 20 to 27, or 40.
+ * Otherwise a refusal: 10 to 19, 20 to 27, or 40.
  */
 uint32_t lichenhusk_lookup(const uint8_t *dict, size_t dict_len,
                            const uint8_t *object, size_t object_len,
@@ -201,7 +206,7 @@ uint32_t lichenhusk_lookup(const uint8_t *dict, size_t dict_len,
  * Checks the dictionary.
  *
  * 0: number is its entry count, start is 0, end is its trimmed end.
- * Otherwise a refusal: 10 to 18, or 40.
+ * Otherwise a refusal: 10 to 19, or 40.
  */
 uint32_t lichenhusk_dictionary(const uint8_t *dict, size_t dict_len,
                                uint8_t *strip, size_t strip_len);
@@ -210,7 +215,7 @@ uint32_t lichenhusk_dictionary(const uint8_t *dict, size_t dict_len,
  * Checks the dictionary and finds the name of an entry, counted from 0.
  *
  * 0: number is 0, and the name is the dictionary's bytes from start to end.
- * Otherwise a refusal: 10 to 18, then 31, or 40.
+ * Otherwise a refusal: 10 to 19, then 31, or 40.
  */
 uint32_t lichenhusk_name(const uint8_t *dict, size_t dict_len, size_t entry,
                          uint8_t *strip, size_t strip_len);
@@ -220,7 +225,7 @@ uint32_t lichenhusk_name(const uint8_t *dict, size_t dict_len, size_t entry,
  *
  * 0: number is the field count, start is where the children's bytes begin, end
  *    is the object's trimmed end.
- * Otherwise a refusal: 10 to 18, 20 to 27, or 40.
+ * Otherwise a refusal: 10 to 19, 20 to 27, or 40.
  */
 uint32_t lichenhusk_layer(const uint8_t *dict, size_t dict_len,
                           const uint8_t *object, size_t object_len,

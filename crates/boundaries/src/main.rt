@@ -1,27 +1,34 @@
-// Runs utf8::valid_len on inputs of boundary bytes and compares with data/answers, which another decoder made: Python's strict utf-8
-// codec, by tools/utf8_boundaries.py. Boundary bytes are both ends of each range of bytes in RFC 3629, one below and one above.
+// Runs utf8::check on inputs of boundary bytes and on all proper beginnings of characters, and compares with data/answers, which another
+// decoder made: Python's strict utf-8 codec, by tools/utf8_boundaries.py. Boundary bytes are both ends of each range of bytes in RFC 3629,
+// one below and one above.
 //
-// The list has one digit a case, 38 to a line, and the cases are counted as the script counts them: every string of 1, 2 and 3
-// boundary bytes, then every string of 4 bytes whose first is EF to F5, whose second and third are boundary bytes, and whose fourth is
-// 7F, 80, BF or C0. So a case's number, taken apart in base 38, is its bytes.
+// The list has one mark a case, 100 to a line, and the cases are counted as the script counts them; it says which they are. So a case's
+// number, taken apart, is its bytes. The mark is a digit, the length of the longest text; or a letter, `a` for 0, where it is cut there.
 use libc::STDOUT_FILENO;
 ghost use Prim.Native.Nat.{_≤_, _<_};
 ghost use lib.ListN.{length};
 
-// How many cases there are of each length.
-const ONES: usize = 38;
+// How many cases there are of each kind: of 1 and 2 bytes, and of 3 and 4 boundary bytes.
+const ONES: usize = 256;
 
-const TWOS: usize = 38 * 38;
+const TWOS: usize = 256 * 256;
 
 const THREES: usize = 38 * 38 * 38;
 
 const FOURS: usize = 7 * 38 * 38 * 4;
 
-// In all: 96,786, the number that the contracts have.
-const CASES: usize = ONES + TWOS + THREES + FOURS;
+// Beginnings of 2 bytes with one that does not fit, of 3 alone, and of 3 with one that does not fit.
+const UNFIT_PAIRS: usize = 21 * 64 * 2;
 
-// How long the list is: 38 digits to a line, and each line's end.
-const LIST: usize = CASES + CASES / 38;
+const TRIPLES: usize = 5 * 64 * 64;
+
+const UNFIT_TRIPLES: usize = 5 * 64 * 64 * 2;
+
+// In all: 225,224, the number that the contracts have.
+const CASES: usize = ONES + TWOS + THREES + FOURS + UNFIT_PAIRS + TRIPLES + UNFIT_TRIPLES;
+
+// How long the list is: 100 marks to a line, and each line's end.
+const LIST: usize = CASES + CASES / 100 + 1;
 
 // An input: the first `len` of `bytes`.
 struct Case {
@@ -52,20 +59,72 @@ fn fourth(n: usize) -> u8 {
     fourths[n % 4]
 }
 
+// Any byte; one that continues a character; one that fits nowhere.
+fn any(n: usize) -> u8 {
+    (n % 256) as u8
+}
+
+fn tail(n: usize) -> u8 {
+    (0x80 + n % 64) as u8
+}
+
+fn unfit(n: usize) -> u8 {
+    let bytes = b"\x7F\xC0";
+    bytes[n % 2]
+}
+
+// The first byte of a character of 3 or 4 bytes, and of one of 4.
+fn lead(n: usize) -> u8 {
+    (0xE0 + n % 21) as u8
+}
+
+fn long_lead(n: usize) -> u8 {
+    (0xF0 + n % 5) as u8
+}
+
+// The beginnings of 2 bytes that are not alone, and those of 3.
+fn beginning(number: usize) -> Case
+    ensures { λ r. ⌜ r .len ≤ length (r .bytes) ⌝ }
+{
+    if number < UNFIT_PAIRS {
+        return Case {
+            bytes: [lead(number / 128), tail(number / 2), unfit(number), 0],
+            len: 3,
+        };
+    }
+    let three = number - UNFIT_PAIRS;
+    if three < TRIPLES {
+        return Case {
+            bytes: [long_lead(three / 4096), tail(three / 64), tail(three), 0],
+            len: 3,
+        };
+    }
+    let four = three - TRIPLES;
+    Case {
+        bytes: [
+            long_lead(four / 8192),
+            tail(four / 128),
+            tail(four / 2),
+            unfit(four),
+        ],
+        len: 4,
+    }
+}
+
 // The case of a number below CASES.
 fn case_of(number: usize) -> Case
     ensures { λ r. ⌜ r .len ≤ length (r .bytes) ⌝ }
 {
     if number < ONES {
         return Case {
-            bytes: [edge(number), 0, 0, 0],
+            bytes: [any(number), 0, 0, 0],
             len: 1,
         };
     }
     let two = number - ONES;
     if two < TWOS {
         return Case {
-            bytes: [edge(two / 38), edge(two), 0, 0],
+            bytes: [any(two / 256), any(two), 0, 0],
             len: 2,
         };
     }
@@ -77,47 +136,55 @@ fn case_of(number: usize) -> Case
         };
     }
     let four = three - THREES;
-    Case {
-        bytes: [
-            first_of_four(four / 5776),
-            edge(four / 152),
-            edge(four / 4),
-            fourth(four),
-        ],
-        len: 4,
+    if four < FOURS {
+        return Case {
+            bytes: [
+                first_of_four(four / 5776),
+                edge(four / 152),
+                edge(four / 4),
+                fourth(four),
+            ],
+            len: 4,
+        };
     }
+    beginning(four - FOURS)
 }
 
-// What utf8::valid_len answers to a case.
-fn answer(number: usize) -> usize {
+// The mark of a place, and one that the list does not have for a place that no case has.
+fn mark(marks: &[u8], place: usize) -> u8 {
+    if marks.len() <= place {
+        return b'?';
+    }
+    marks[place]
+}
+
+// The mark of what utf8::check answers to a case.
+fn answer(number: usize) -> u8 {
     let case = case_of(number);
     let bytes = case.bytes;
     let len = case.len;
-    utf8::valid_len(&bytes[0..len])
+    let verdict = utf8::check(&bytes[0..len]);
+    match verdict {
+        utf8::Verdict::Whole => mark(b"01234", len),
+        utf8::Verdict::Cut(p) => mark(b"abcd", p),
+        utf8::Verdict::Broken(p) => mark(b"01234", p),
+    }
 }
 
-// What the list answers: 9 where it has no digit for the case.
-fn listed(list: &[u8], number: usize) -> usize
-    requires { ⌜ number < 96786 ⌝ }
+// The list's mark: a blank where it has none for the case.
+fn listed(list: &[u8], number: usize) -> u8
+    requires { ⌜ number < 225224 ⌝ }
 {
-    let at = number + number / 38;
+    let at = number + number / 100;
     if list.len() <= at {
-        return 9;
+        return b' ';
     }
-    let digit = list[at];
-    match digit {
-        b'0' => 0,
-        b'1' => 1,
-        b'2' => 2,
-        b'3' => 3,
-        b'4' => 4,
-        _ => 9,
-    }
+    list[at]
 }
 
 // 1 where a case differs, else 0.
 fn differs(list: &[u8], number: usize) -> usize
-    requires { ⌜ number < 96786 ⌝ }
+    requires { ⌜ number < 225224 ⌝ }
     ensures { λ r. ⌜ r ≤ 1 ⌝ }
 {
     if answer(number) == listed(list, number) {
@@ -129,15 +196,15 @@ fn differs(list: &[u8], number: usize) -> usize
 
 // The case to report: the one at hand, as long as none before it differs.
 fn reported(differ: usize, first: usize, number: usize) -> usize
-    requires { ⌜ (first < 96786) × (number < 96786) ⌝ }
-    ensures { λ r. ⌜ r < 96786 ⌝ }
+    requires { ⌜ (first < 225224) × (number < 225224) ⌝ }
+    ensures { λ r. ⌜ r < 225224 ⌝ }
 {
     if differ == 0 { number } else { first }
 }
 
 // Compares every case.
 fn run(list: &[u8]) -> Tally
-    ensures { λ r. ⌜ r .first < 96786 ⌝ }
+    ensures { λ r. ⌜ r .first < 225224 ⌝ }
 {
     let mut number = 0;
     let mut differ = 0;
@@ -172,7 +239,7 @@ fn say(n: usize, words: &[u8]) {
 }
 
 fn report(list: &[u8], t: Tally)
-    requires { ⌜ t .first < 96786 ⌝ }
+    requires { ⌜ t .first < 225224 ⌝ }
 {
     say(t.compared, b" cases compared, ");
     say(t.differ, b" differ\n");
@@ -186,8 +253,10 @@ fn report(list: &[u8], t: Tally)
     io::write_all(STDOUT_FILENO, b"the first is ");
     write_hex(&bytes[0..len]);
     io::write_all(STDOUT_FILENO, b"with ");
-    say(answer(number), b" found and ");
-    say(listed(list, number), b" listed\n");
+    io::write_all(STDOUT_FILENO, &[answer(number)]);
+    io::write_all(STDOUT_FILENO, b" found and ");
+    io::write_all(STDOUT_FILENO, &[listed(list, number)]);
+    io::write_all(STDOUT_FILENO, b" listed\n");
 }
 
 fn main() {
@@ -198,7 +267,7 @@ fn main() {
         return;
     }
     // more room than the list needs, so that a longer one is noticed
-    let mut text = [0u8; 131072];
+    let mut text = [0u8; 262144];
     let n = io::read_full(fd, &mut text);
     libc::close(fd);
     if n != LIST {

@@ -1,7 +1,7 @@
 -- A dictionary is refused, with a number and a place, exactly when document 01's table says so, its checks taken in their order (the data
 -- type `Refusal` of specs/Meaning.antt). Assumes nothing.
-use Rattle.rules.proofs.Prelude.{_≡_, refl, sym, _∙_, Bool, true, false, _↔_, List, [], _∷_, ℕ, _<_, arith, drop, false-true, refuse, first, stop, _&_, surely, first-at, stops, turned-down, refused}
-use Rattle.rules.proofs.Prelude.{each-pass, each-stop, meant-stop}
+use Rattle.rules.proofs.Prelude.{_≡_, refl, sym, _∙_, Bool, true, false, _↔_, List, [], _∷_, ℕ, _<_, arith, drop, refuse, first, stop, _&_, surely, first-at, stops, turned-down, refused}
+use Rattle.rules.proofs.Prelude.{false-true, each-pass, each-stop, meant-stop}
 use Rattle.utf8.specs.Utf8.{LongestText, Completed, begins}
 use Rattle.utf8.specs.Utf8.Judged.{cut, broken}
 use Rattle.utf8.proofs.Begins.{begins-is}

@@ -44,6 +44,7 @@ fn meaning_of_dictionary(code: usize) -> bool {
         16 => tell(b"not UTF-8"),
         17 => tell(b"its offsets fall, pass the value region or cut a character"),
         18 => tell(b"the dictionary is sorted, and it is not above the one before"),
+        19 => tell(b"the text ends inside a character; ask for the rest"),
         _ => tell(b"the dictionary has no such entry"),
     }
 }
@@ -65,7 +66,7 @@ fn meaning_of_object(code: usize) -> bool {
 fn place(a: Answer) {
     let code = a.code;
     match code {
-        16 => {
+        16 | 19 => {
             say(b" at byte ", a.place);
             tell(b" of the value region");
         }

@@ -15,8 +15,8 @@
 //! all words under a refusal, stay.
 
 use crate::original::{
-    DICTIONARY_REASONS, may_be_object_number, place_in, same_value, told, traced, traced_start,
-    words,
+    dictionary_number, may_be_object_number, place_in, same_value, traced, traced_start,
+    utf8_error, words,
 };
 use crate::ours::{Reader, absent, accepted, refused};
 use crate::reading::{DictionaryParts, ObjectParts};
@@ -118,7 +118,7 @@ fn dictionary_verdict<'d>(
             Ok(Some(theirs))
         }
         Err(error) => {
-            if told(DICTIONARY_REASONS, &error) != Some(ours.code) {
+            if dictionary_number(dict, &error) != Some(ours.code) {
                 return differ("a dictionary's verdict", ours, error);
             }
             agree("a refusal's words", ours, refused(ours.code, ours.place))?;
@@ -136,12 +136,9 @@ fn dictionary_place(dict: &[u8], ours: Strip, theirs: &str) -> Compared {
     let parts = || DictionaryParts::of(dict).expect("a count, since it is not short");
     match ours.code {
         10..=15 => agree("the place of a refusal that has none", place, 0),
-        16 => {
-            let region = parts()
-                .region(dict)
-                .expect("a region, since it is not short");
-            let prefix = std::str::from_utf8(region).map_err(|error| error.valid_up_to());
-            agree("the well-formed prefix", Err(place), prefix.map(drop))
+        16 | 19 => {
+            let prefix = utf8_error(dict).map(|error| error.valid_up_to());
+            agree("the well-formed prefix", Some(place), prefix)
         }
         17 => {
             let offset = |entry| parts().offsets.number(dict, entry);

@@ -36,6 +36,12 @@ pub enum Fault {
     TakesAnyBytes,
     /// Says of bad UTF-8 that it begins a byte later.
     LatePlace,
+    /// Says of a text that was cut that it is not UTF-8.
+    CutIsBroken,
+    /// Says of names that are not UTF-8 that they were cut.
+    BrokenIsCut,
+    /// Says of a text that was cut that it is so a byte later.
+    LateCut,
     /// Takes offsets that cut a character.
     CutsCharacters,
     /// Takes a sorted dictionary that does not increase.
@@ -69,7 +75,7 @@ pub enum Fault {
 }
 
 /// Every fault.
-pub const ALL: [Fault; 30] = [
+pub const ALL: [Fault; 33] = [
     Fault::AlwaysShort,
     Fault::AbsentIsFound,
     Fault::AlwaysAbsent,
@@ -85,6 +91,9 @@ pub const ALL: [Fault; 30] = [
     Fault::CutsNames,
     Fault::TakesAnyBytes,
     Fault::LatePlace,
+    Fault::CutIsBroken,
+    Fault::BrokenIsCut,
+    Fault::LateCut,
     Fault::CutsCharacters,
     Fault::TakesAnyOrder,
     Fault::Wraps,
@@ -115,7 +124,7 @@ impl<R: Reader> Faulty<R> {
     /// The refusals that a fault turns into acceptance.
     fn takes(&self, code: u32) -> bool {
         match self.fault {
-            Fault::TakesAnyBytes => code == 16,
+            Fault::TakesAnyBytes => code == 16 || code == 19,
             Fault::CutsCharacters => code == 17,
             Fault::TakesAnyOrder => code == 18,
             Fault::NoLimit => code == 10,
@@ -132,6 +141,9 @@ impl<R: Reader> Faulty<R> {
         match self.fault {
             Fault::AlwaysShort => refused(13, 0),
             Fault::LatePlace if strip.code == 16 => refused(16, strip.place + 1),
+            Fault::CutIsBroken if strip.code == 19 => refused(16, strip.place),
+            Fault::BrokenIsCut if strip.code == 16 => refused(19, strip.place),
+            Fault::LateCut if strip.code == 19 => refused(19, strip.place + 1),
             Fault::Wraps if strip.code == 14 => refused(13, 0),
             Fault::Wraps if strip.code == 24 => refused(23, 0),
             _ if self.takes(strip.code) => accepted(0, 0, 0),

@@ -1,4 +1,4 @@
-//! Inputs that are the same in every run: document 01's, those of many entries and fields, those
+//! Inputs that are the same in every run: the documents', those of many entries and fields, those
 //! at the limits of length, and values nested as deep as the domain goes.
 
 use crate::Input;
@@ -25,9 +25,9 @@ pub fn inputs() -> Vec<Input> {
     all
 }
 
-/// The worked cases of document 01.
+/// The worked cases of document 01, and request b)'s.
 fn worked() -> Vec<Input> {
-    let dictionaries: [&[u8]; 13] = [
+    let dictionaries: [&[u8]; 14] = [
         b"",
         b"\x01\x00\x00",
         b"\x01\x00",
@@ -36,6 +36,7 @@ fn worked() -> Vec<Input> {
         b"\xC1\xFE\xFF\xFF\x3F",
         b"\x01\x00\x01",
         b"\x01\x01\x00\x01\xFF",
+        b"\x01\x01\x00\x01\xC3",
         b"\x01\x02\x00\x01\x02\xC3\xA9",
         b"\x01\x03\x00\x02\x01\x02ab",
         b"\x11\x02\x00\x01\x02aa",

@@ -1,9 +1,10 @@
 //! Long names, where a check that takes many bytes at once could go wrong: plain but for a place or
-//! two, plain but for four bytes, of longer characters with one byte changed, and two that begin
-//! alike.
+//! two, plain but for four bytes, of longer characters with one byte changed, cut inside a
+//! character, and two that begin alike.
 
 use crate::Input;
 use crate::encode::{DictionaryShape, dictionary, plain_object};
+use std::collections::BTreeSet;
 
 /// What stands in a plain name: characters of each length, and bytes that are none.
 const OTHERS: [&[u8]; 9] = [
@@ -36,6 +37,9 @@ const LONGER: [&str; 5] = ["é", "€", "😀", "aé", "aé€😀"];
 
 /// What stands in place of one of their bytes.
 const CHANGES: [u8; 7] = [b'a', 0x80, 0xBF, 0xC3, 0xE2, 0xF0, 0xFF];
+
+/// Plain bytes before the beginning of a character: it stands alone, or in the first two blocks.
+const BEFORE: [usize; 2] = [0, 65];
 
 /// How two names end that begin alike.
 const TAILS: [&str; 9] = [
@@ -99,6 +103,38 @@ pub fn longer<E>(mut visit: impl FnMut(&[u8]) -> Result<(), E>) -> Result<(), E>
         }
     }
     Ok(())
+}
+
+/// The same with each name that ends with a proper beginning of a character, all beginnings of all
+/// characters, and with some byte after it, which mostly does not fit.
+pub fn cut<E>(mut visit: impl FnMut(&[u8]) -> Result<(), E>) -> Result<(), E> {
+    for before in BEFORE {
+        for beginning in beginnings() {
+            let mut name = [&vec![b'a'; before], &beginning[..]].concat();
+            visit(&of_one(&name))?;
+            name.push(0);
+            for after in CHANGES {
+                *name.last_mut().expect("it was pushed") = after;
+                visit(&of_one(&name))?;
+            }
+        }
+    }
+    Ok(())
+}
+
+/// Every proper beginning of a character, once.
+pub fn beginnings() -> BTreeSet<Vec<u8>> {
+    let mut all = BTreeSet::new();
+    for character in '\u{80}'..=char::MAX {
+        let mut bytes = [0; 4];
+        let bytes = character.encode_utf8(&mut bytes).as_bytes();
+        for length in 1..bytes.len() {
+            if !all.contains(&bytes[..length]) {
+                all.insert(bytes[..length].to_vec());
+            }
+        }
+    }
+    all
 }
 
 /// The same with two names that begin alike, in either order, sorted or not, and objects that have

@@ -1,8 +1,9 @@
 //! The Rust's side: what its values and errors tell, and objects that make it tell more.
 
-use crate::reading::ObjectParts;
+use crate::reading::{DictionaryParts, ObjectParts};
 use arrow_schema::ArrowError;
 use parquet_variant::Variant;
+use std::str::Utf8Error;
 
 /// Where a part of a buffer starts in it.
 pub fn place_in(part: &[u8], whole: &[u8]) -> usize {
@@ -84,7 +85,7 @@ pub fn told(reasons: &Reasons, error: &ArrowError) -> Option<u32> {
 }
 
 /// The reasons to refuse a dictionary.
-pub const DICTIONARY_REASONS: &Reasons = &[
+const DICTIONARY_REASONS: &Reasons = &[
     ("version", 12),
     ("extract", 13),
     ("First offset", 15),
@@ -94,6 +95,24 @@ pub const DICTIONARY_REASONS: &Reasons = &[
     ("overflow", 14),
     ("empty", 11),
 ];
+
+/// The library's error, where a dictionary's names are not UTF-8.
+pub fn utf8_error(dict: &[u8]) -> Option<Utf8Error> {
+    let region = DictionaryParts::of(dict)?.region(dict)?;
+    std::str::from_utf8(region).err()
+}
+
+/// Our number for a dictionary that the Rust refuses. Of names that are not UTF-8 it says no more
+/// than that: it drops the library's error, which is asked for again to tell 19 from 16.
+pub fn dictionary_number(dict: &[u8], error: &ArrowError) -> Option<u32> {
+    match told(DICTIONARY_REASONS, error)? {
+        16 => match utf8_error(dict)?.error_len() {
+            None => Some(19),
+            Some(_) => Some(16),
+        },
+        number => Some(number),
+    }
+}
 
 /// Whether the reason that the Rust gives for refusing an object may be one of our numbers.
 ///

@@ -6,7 +6,7 @@
 use crate::damage::damaged;
 use crate::fixed;
 use crate::generate::good;
-use crate::original::{DICTIONARY_REASONS, Reasons, place_in, told, traced, traced_start};
+use crate::original::{Reasons, dictionary_number, place_in, told, traced, traced_start};
 use crate::random::Random;
 use crate::reading::ObjectParts;
 use crate::{Input, hex};
@@ -148,7 +148,7 @@ impl Answer {
     fn class(&self, input: &Input) -> String {
         let (dict_bits, object_bits) = match (self.kind(), self.says) {
             ("dictionary", _) => (WIDTH | SORTED, 0),
-            (_, Says::Refused(Some(10..=18))) => (0, 0),
+            (_, Says::Refused(Some(10..=19))) => (0, 0),
             ("name", _) => (WIDTH | SORTED, 0),
             _ => (SORTED, OBJECT_SHAPE),
         };
@@ -214,14 +214,14 @@ fn answers(input: &Input) -> Vec<Answer> {
 fn dictionary(dict: &[u8]) -> Says {
     match VariantMetadata::try_new(dict) {
         Ok(metadata) => Says::Dictionary(metadata.len(), metadata.size()),
-        Err(error) => Says::Refused(told(DICTIONARY_REASONS, &error)),
+        Err(error) => Says::Refused(dictionary_number(dict, &error)),
     }
 }
 
 fn name(dict: &[u8], entry: usize) -> Says {
     let metadata = match VariantMetadata::try_new(dict) {
         Ok(metadata) => metadata,
-        Err(error) => return Says::Refused(told(DICTIONARY_REASONS, &error)),
+        Err(error) => return Says::Refused(dictionary_number(dict, &error)),
     };
     match metadata.get(entry) {
         Ok(name) => {
@@ -236,7 +236,7 @@ fn name(dict: &[u8], entry: usize) -> Says {
 fn layer(dict: &[u8], object: &[u8]) -> Option<Says> {
     let metadata = match VariantMetadata::try_new(dict) {
         Ok(metadata) => metadata,
-        Err(error) => return Some(Says::Refused(told(DICTIONARY_REASONS, &error))),
+        Err(error) => return Some(Says::Refused(dictionary_number(dict, &error))),
     };
     let error = match VariantObject::try_new(metadata.clone(), object) {
         Ok(theirs) => return Some(Says::Layer(theirs.len(), theirs.value.len())),

@@ -144,6 +144,9 @@ impl<R: Reader> Run<'_, R> {
         self.kind("long names of longer characters, one byte changed", |run| {
             long_names::longer(|dict| run.dictionary(dict))
         })?;
+        self.kind("names that end inside a character", |run| {
+            long_names::cut(|dict| run.dictionary(dict))
+        })?;
         self.kind("two names that begin alike", |run| {
             long_names::alike(|input| run.input(input))
         })?;

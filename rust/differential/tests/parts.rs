@@ -2,6 +2,7 @@
 
 use differential::encode::{self, DictionaryShape, ObjectShape};
 use differential::exhaustive::each;
+use differential::long_names::beginnings;
 use differential::original::{traced, traced_start};
 use differential::random::Random;
 use differential::reading::{DictionaryParts, ObjectParts};
@@ -22,6 +23,20 @@ fn each_string_once_in_order() {
     assert!(seen.is_sorted());
     seen.dedup();
     assert_eq!(seen.len(), 18);
+}
+
+/// First bytes C2 to F4; of the longer characters, also with a second byte in its range; of the
+/// longest, also with a third.
+#[test]
+fn each_beginning_of_a_character() {
+    let all = beginnings();
+    let of_length = |length| all.iter().filter(|bytes| bytes.len() == length).count();
+    let twos = [32, 12 * 64, 32, 2 * 64].iter().sum::<usize>();
+    let fours = [48, 3 * 64, 16].iter().sum::<usize>();
+    assert_eq!(of_length(1), 0xF4 - 0xC2 + 1);
+    assert_eq!(of_length(2), twos + fours);
+    assert_eq!(of_length(3), 64 * fours);
+    assert_eq!(all.len(), 51 + 1_216 + 16_384);
 }
 
 #[test]

@@ -55,7 +55,7 @@ fn kind(case: &str, says: &str) -> String {
 }
 
 /// What lines there must be.
-const KINDS: [&str; 26] = [
+const KINDS: [&str; 27] = [
     "dictionary accepts",
     "dictionary refuses 11",
     "dictionary refuses 12",
@@ -65,6 +65,7 @@ const KINDS: [&str; 26] = [
     "dictionary refuses 16",
     "dictionary refuses 17",
     "dictionary refuses 18",
+    "dictionary refuses 19",
     "name at",
     "name refuses 13",
     "name refuses 18",

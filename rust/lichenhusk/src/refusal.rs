@@ -17,6 +17,15 @@ use std::fmt;
 ///     "refused 16 at 0: the dictionary's names are not UTF-8 after their first 0 bytes"
 /// );
 /// ```
+///
+/// A text that was cut is told from one that is corrupt:
+///
+/// ```
+/// use lichenhusk::Refusal;
+///
+/// let refusal = lichenhusk::dictionary(&[1, 1, 0, 1, 0xC3]).unwrap_err();
+/// assert_eq!(refusal, Refusal::DictionaryTextCut { prefix: 0 });
+/// ```
 #[derive(Clone, Copy, Debug, PartialEq, Eq, Hash)]
 pub enum Refusal {
     /// 10: the dictionary is longer than [`LIMIT`](crate::LIMIT).
@@ -31,7 +40,7 @@ pub enum Refusal {
     DictionaryOverflow,
     /// 15: the dictionary's first offset is not 0.
     DictionaryFirstOffset,
-    /// 16: the dictionary's names are not UTF-8.
+    /// 16: the dictionary's names are not UTF-8, and no further bytes would make them that.
     DictionaryNotUtf8 {
         /// How many bytes, from the first name's first byte, are well formed.
         prefix: u32,
@@ -45,6 +54,12 @@ pub enum Refusal {
     DictionaryOrder {
         /// The first such entry.
         entry: u32,
+    },
+    /// 19: the dictionary's names end inside a character, which further bytes would complete:
+    /// the text was cut, so ask for the rest. Checked where 16 is.
+    DictionaryTextCut {
+        /// How many bytes, from the first name's first byte, are well formed.
+        prefix: u32,
     },
     /// 20: the object is longer than [`LIMIT`](crate::LIMIT).
     ObjectTooLong,
@@ -104,6 +119,7 @@ impl Refusal {
             16 => DictionaryNotUtf8 { prefix: place },
             17 => DictionaryEntry { entry: place },
             18 => DictionaryOrder { entry: place },
+            19 => DictionaryTextCut { prefix: place },
             20 => ObjectTooLong,
             21 => ObjectEmpty,
             22 => ObjectType,
@@ -144,6 +160,7 @@ impl Refusal {
             DictionaryNotUtf8 { .. } => 16,
             DictionaryEntry { .. } => 17,
             DictionaryOrder { .. } => 18,
+            DictionaryTextCut { .. } => 19,
             ObjectTooLong => 20,
             ObjectEmpty => 21,
             ObjectType => 22,
@@ -162,7 +179,7 @@ impl Refusal {
     /// The place, as the strip's last word has it: 0 for a refusal that has none.
     pub fn place(self) -> u32 {
         match self {
-            DictionaryNotUtf8 { prefix } => prefix,
+            DictionaryNotUtf8 { prefix } | DictionaryTextCut { prefix } => prefix,
             DictionaryEntry { entry } | DictionaryOrder { entry } => entry,
             ObjectId { field } | ObjectOrder { field } | ObjectOffset { field } => field,
             _ => 0,
@@ -197,6 +214,10 @@ impl fmt::Display for Refusal {
             DictionaryOrder { entry } => write!(
                 to,
                 "the dictionary says that it is sorted, and its entry {entry} is not above the one before"
+            ),
+            DictionaryTextCut { prefix } => write!(
+                to,
+                "the dictionary's names end inside a character, after their first {prefix} bytes: ask for the rest"
             ),
             ObjectTooLong => write!(to, "the object is longer than 65536 bytes"),
             ObjectEmpty => write!(to, "the object has no bytes"),

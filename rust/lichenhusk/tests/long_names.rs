@@ -1,5 +1,6 @@
 //! Long names with another byte at each of their places: 16 has that place, or the start of the
-//! character there, however many bytes are judged at once. And names with many bytes in common.
+//! character there, however many bytes are judged at once; and so has 19, where the name ends
+//! inside a character. And names with many bytes in common.
 
 use lichenhusk::{Dictionary, Found, Refusal};
 
@@ -24,14 +25,38 @@ fn a_byte_that_starts_no_character() {
         each_place(|length, place| {
             let mut name = vec![b'a'; length];
             name[place] = other;
+            let prefix = place as u32;
+            let refusal = match (other, place + 1 == length) {
+                (0xC3, true) => Refusal::DictionaryTextCut { prefix },
+                _ => Refusal::DictionaryNotUtf8 { prefix },
+            };
             assert_eq!(
                 lichenhusk::dictionary(&of_one(&name)),
-                Err(Refusal::DictionaryNotUtf8 {
-                    prefix: place as u32
-                }),
+                Err(refusal),
                 "{other:X} at {place} of {length}"
             );
         });
+    }
+}
+
+/// A text of longer characters, cut after each of its bytes, and the same with a byte after it
+/// that does not fit.
+#[test]
+fn a_text_that_was_cut() {
+    for character in ["é", "€", "😀"] {
+        let text = character.repeat(LONGEST).into_bytes();
+        for length in 1..=LONGEST {
+            let mut name = text[..length].to_vec();
+            let whole = length % character.len() == 0;
+            let prefix = (length - length % character.len()) as u32;
+            let answer = lichenhusk::dictionary(&of_one(&name)).err();
+            let cut = Refusal::DictionaryTextCut { prefix };
+            assert_eq!(answer, (!whole).then_some(cut), "{character}, {length}");
+            name.push(b'a');
+            let answer = lichenhusk::dictionary(&of_one(&name)).err();
+            let broken = Refusal::DictionaryNotUtf8 { prefix };
+            assert_eq!(answer, (!whole).then_some(broken), "{character}, {length}");
+        }
     }
 }
 

@@ -62,6 +62,12 @@ fn rows() -> Vec<Row> {
             2,
             hex("11 03 00 01 02 03 61 62 61"),
         ),
+        of_dictionary(
+            DictionaryTextCut { prefix: 2 },
+            19,
+            2,
+            hex("01 01 00 05 61 62 F0 90 80"),
+        ),
         of_object(ObjectTooLong, 20, 0, padded(P, LIMIT + 1)),
         of_object(ObjectEmpty, 21, 0, hex("")),
         of_object(ObjectType, 22, 0, hex("03 00 00")),
@@ -161,7 +167,7 @@ fn numbers_and_cases_match() {
     let numbers: Vec<u32> = (0..=1000)
         .filter(|&number| Refusal::of(number, 5).is_some())
         .collect();
-    let all: Vec<u32> = (10..=18)
+    let all: Vec<u32> = (10..=19)
         .chain(20..=27)
         .chain([31])
         .chain(40..=42)
@@ -170,7 +176,7 @@ fn numbers_and_cases_match() {
     for number in all {
         let refusal = Refusal::of(number, 5).unwrap();
         assert_eq!(refusal.number(), number);
-        let has_place = matches!(number, 16..=18 | 25..=27);
+        let has_place = matches!(number, 16..=19 | 25..=27);
         assert_eq!(refusal.place(), if has_place { 5 } else { 0 });
         assert_eq!(
             Refusal::of(refusal.number(), refusal.place()),
@@ -196,7 +202,7 @@ fn each_says_what_it_is() {
         }
         assert!(seen.insert(words.to_string()), "{text}");
     }
-    assert_eq!(seen.len(), 21);
+    assert_eq!(seen.len(), 22);
 }
 
 #[test]

@@ -1,4 +1,4 @@
-//! Document 01's worked cases, all of them, in its order.
+//! Document 01's worked cases, all of them, in its order, with those of document 02's requests.
 
 mod common;
 
@@ -47,6 +47,10 @@ fn dictionaries_of_bad_names() {
     assert_eq!(
         dictionary("01 01 00 01 FF"),
         Err(Refusal::DictionaryNotUtf8 { prefix: 0 })
+    );
+    assert_eq!(
+        dictionary("01 01 00 01 C3"),
+        Err(Refusal::DictionaryTextCut { prefix: 0 })
     );
     assert_eq!(
         dictionary("01 02 00 01 02 C3 A9"),

@@ -5,10 +5,10 @@ use Rattle.boundaries.proofs.run.Statement.{statement}
 use Rattle.boundaries.proofs.run.Tie as tie
 
 abbrev Inv-loop : tie.InvT-loop
-Inv-loop list number₀ differ₀ first₀ number differ first = (differ ≤ number) × (first < 96786)
+Inv-loop list number₀ differ₀ first₀ number differ first = (differ ≤ number) × (first < 225224)
 
 abbrev μ-loop : tie.MeasureT-loop
-μ-loop list number₀ differ₀ first₀ number differ first = 96786 - number
+μ-loop list number₀ differ₀ first₀ number differ first = 225224 - number
 
 pub run-spec : {M : Type 1} → statement M
 run-spec =
