@@ -20,6 +20,7 @@ use Rattle.utf8.specs.Utf8.{Tails, Char, Text, Begins, LongestText, Judg
 use Rattle.utf8.specs.Utf8.Tails.{end, next}
 use Rattle.utf8.specs.Utf8.Char.{char-of}
 use Rattle.utf8.specs.Utf8.Judged.{whole, cut, broken}
+use Rattle.utf8.specs.Promises.{CheckPromise}
 use Rattle.utf8.proofs.Table.{followed}
 use Rattle.utf8.proofs.Laws.{tails-length, tails-sound, text-le, text-sound, text-longest, text-whole, text-all}
 
@@ -148,5 +149,5 @@ judged s = go (begins (drop (textUpTo s) s)) refl (ltb (textUpTo s) (length s)) 
     go false e false f = whole (text-all s (ltb-false _ _ f))
 
 -- THE THEOREM: what `check` answers is what the list is
-pub judges : (s : List ℕ) (r : Verdict) → (r ≡ verdict s) ↔ Judged s r
+pub judges : (s : List ℕ) (r : Verdict) → CheckPromise s r ↔ Judged s r
 judges s r = (λ e. rw e (judged s), λ j. sym (is-judged s r j))

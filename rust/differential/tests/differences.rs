@@ -30,6 +30,19 @@ fn other_basic_types() {
     }
 }
 
+/// 19 and 16: the Rust's words are the same for a text that was cut and for one that is corrupt.
+/// No shorter dictionary has a byte of text.
+#[test]
+fn cut_text() {
+    let cut = [1, 1, 0, 1, 0xC3];
+    let corrupt = [1, 1, 0, 1, 0xFF];
+    let words = |dict: &[u8]| VariantMetadata::try_new(dict).unwrap_err().to_string();
+    assert_eq!(words(&cut), words(&corrupt));
+    let ours = |dict: &[u8]| lichenhusk::dictionary(dict).unwrap_err();
+    assert_eq!(ours(&cut), Refusal::DictionaryTextCut { prefix: 0 });
+    assert_eq!(ours(&corrupt), Refusal::DictionaryNotUtf8 { prefix: 0 });
+}
+
 /// A child of no bytes: ours alone. A field takes five bytes, so no shorter object shows it.
 #[test]
 fn empty_children() {

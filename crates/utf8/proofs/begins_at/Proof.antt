@@ -13,7 +13,7 @@ begins-at-spec =
     (λ c. let a = c .before .before .args in sym (begins-end (a .at) (a .s .now) (c .if1 .taken)))  -- returns
     (λ c. search needs) (λ c κs. search needs) (λ c. search needs) (λ c. search needs) (λ c. search needs) (λ c. search needs)
     (λ c. let m = c .before .before in let k = m .before .before in let a = k .before .before .before .before .args in
-    sym (begins-long (a .at) (a .s .now) (omega arith) (sym (k .classify .ensures) ∙ m .lead .given .1) (c .if2 .taken)))  -- returns-2
+    sym (begins-long (a .at) (a .s .now) (omega arith) (sym (k .classify .ensures) ∙ m .lead .given .1) (omega arith)))  -- returns-2
     (λ c. search needs) (λ c κs. search needs)
     (λ c. let k = c .before .before in let a = k .before .before .before .before .args in
     sym (begins-bad (a .at) (a .s .now) (omega arith) (sym (k .classify .ensures) ∙ c .enum-told .given .1)))  -- returns-3
