@@ -1,8 +1,9 @@
 -- A dictionary is refused, with a number and a place, exactly when document 01's table says so, its checks taken in their order (the data
 -- type `Refusal` of specs/Meaning.antt). Assumes nothing.
-use Rattle.rules.proofs.Prelude.{_≡_, refl, sym, _∙_, Bool, true, false, _↔_, List, [], _∷_, ℕ, _<_, arith, drop, refuse, first, stop, _&_, surely, first-at, stops, turned-down, refused}
+use Rattle.rules.proofs.Prelude.{_≡_, refl, sym, _∙_, true, _↔_, List, [], _∷_, ℕ, _<_, arith, drop, refuse, first, stop, _&_, surely, first-at, stops, turned-down, refused}
 use Rattle.rules.proofs.Prelude.{false-true, each-pass, each-stop, meant-stop}
-use Rattle.utf8.specs.Utf8.{LongestText, Completed, begins}
+use Rattle.rules.specs.Rules.Test.{is}
+use Rattle.utf8.specs.Utf8.{Begins, LongestText, Completed, begins}
 use Rattle.utf8.specs.Utf8.Judged.{cut, broken}
 use Rattle.utf8.proofs.Begins.{begins-is}
 use Rattle.utf8.proofs.Truncated.{truncated}
@@ -43,21 +44,23 @@ refuses d c p = (λ v. meant-stop (checks-mean d) (turned-down (checks d) (count
 
 -- WHAT SUPPORT ASKS: 19 says that the text lost its end, 16 that no further bytes mend it.
 module _ (d : List ℕ) (p : ℕ) (headed : Headed d) (longest : LongestText (region d) p) where
+  mends : Begins (drop p (region d)) ↔ Completed (region d)
+  mends = truncated (region d) p longest
+
   is-19 : Completed (region d) → verdict d ≡ refuse 19 p
-  is-19 c = refuses d 19 p .1 (cut-text headed longest (truncated (region d) p longest .1 c))
+  is-19 c = refuses d 19 p .1 (cut-text headed longest (mends .1 c))
 
   is-16 : (Completed (region d) → ⊥) → verdict d ≡ refuse 16 p
-  is-16 n = refuses d 16 p .1 (no-text headed longest (λ b. n (truncated (region d) p longest .0 b)))
+  is-16 n = refuses d 16 p .1 (no-text headed longest (λ b. n (mends .0 b)))
 
   never-both : verdict d ≡ refuse 16 p → verdict d ≡ refuse 19 p → ⊥
   never-both a b = let z : _≡_ {A = ℕ} 16 19 = cc in omega arith
 
+  begun : verdict d ≡ refuse 19 p → begins (drop p (region d)) ≡ true
+  begun e = surely (is (begins (drop p (region d)))) (λ f. never-both (is-16 (λ c. false-true (sym f ∙ begins-is _ .1 (mends .1 c)))) e)
+
   pub cut-off : (verdict d ≡ refuse 19 p) ↔ Completed (region d)
-  cut-off = (λ e. go e (begins (drop p (region d))) refl, is-19)
-    where
-      go : verdict d ≡ refuse 19 p → (t : Bool) → begins (drop p (region d)) ≡ t → Completed (region d)
-      go e true f = truncated (region d) p longest .0 (begins-is _ .0 f)
-      go e false f = absurd (never-both (is-16 (λ c. false-true (sym f ∙ begins-is _ .1 (truncated (region d) p longest .1 c)))) e)
+  cut-off = (λ e. mends .0 (begins-is _ .0 (begun e)), is-19)
 
   pub corrupt : (verdict d ≡ refuse 16 p) ↔ (Completed (region d) → ⊥)
   corrupt = (λ e c. never-both e (is-19 c), is-16)

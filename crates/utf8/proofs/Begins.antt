@@ -11,7 +11,8 @@ use borrow.Author.Tests.{le-leb, lt-ltb, le-ltb, ltb-true, ltb-false}
 use lib.Dec.{ltb}
 use lib.ListN.{length, take, drop, getD, drop-of-length-le, length-append, length-drop}
 use lib.Seq.{drop-cons, take-length}
-use Rattle.rules.proofs.Laws.{false-true, both}
+use Rattle.rules.specs.Rules.Test.{is}
+use Rattle.rules.proofs.Laws.{false-true, both, unless}
 use Rattle.utf8.specs.declared.Lead.{Lead}
 use Rattle.utf8.specs.declared.Lead.the-variants.{Bad, Seq}
 use Rattle.utf8.specs.declared.Verdict.{Verdict}
@@ -80,11 +81,7 @@ pub begins-is : (s : List ℕ) → (begins s ≡ true) ↔ Begins s
 begins-is s = (is-beginning s, begins-one s)
 
 begins-not : (s : List ℕ) → (Begins s → ⊥) → begins s ≡ false
-begins-not s n = go (begins s) refl
-  where
-    go : (b : Bool) → begins s ≡ b → b ≡ false
-    go true e = absurd (n (is-beginning s e))
-    go false e = refl
+begins-not s n = unless (is (begins s)) (λ e. n (is-beginning s e))
 
 -- What code goes by, at a place of the list.
 module _ (at : ℕ) (s : List ℕ) where
