@@ -1,6 +1,6 @@
 -- Every number of the dictionary's answers fits 32 bits: what an accepted one gives, and each refusal's number and place. Assumes nothing.
 use Rattle.rules.proofs.Prelude.{_≡_, List, ℕ, _+_, _≤_, _<_, mul-le-mul-right, arith, Passed, stop, Meant, meant-then, meant-stop, rows-mean, each-means}
-use Rattle.utf8.proofs.Laws.{text-le}
+use Rattle.chars.proofs.Laws.{text-le}
 use Rattle.metadata.specs.Limits.{u32Max}
 use Rattle.metadata.specs.Dictionary.{width, count, offset, start, end, region, headRules, regionRules, entryRules, checks}
 use Rattle.metadata.specs.Meaning.{Dictionary}

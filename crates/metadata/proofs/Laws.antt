@@ -3,11 +3,12 @@ use Rattle.rules.proofs.Prelude.{_≡_, refl, sym, _∙_, Bool, true, false, co
 use Rattle.rules.proofs.Prelude.{_orElse_, pass, stop, first-pass, passed, stops, goes, unless, false-true, _&_}
 use Rattle.part.specs.Part.{part}
 use Rattle.part.proofs.Laws.{part-length, part-part}
+use Rattle.chars.specs.Rfc3629.{Text, textUpTo}
+use Rattle.chars.proofs.Laws.{text-all}
+use Rattle.chars.proofs.Bounds.{text-first}
 use Rattle.utf8.specs.declared.Verdict.{Verdict}
 use Rattle.utf8.specs.declared.Verdict.the-variants.{Whole, Cut, Broken}
-use Rattle.utf8.specs.Utf8.{Text, textUpTo, isCut, verdict}
-use Rattle.utf8.proofs.Laws.{text-all}
-use Rattle.utf8.proofs.Bounds.{text-first}
+use Rattle.utf8.specs.Utf8.{isCut, verdict}
 use Rattle.metadata.specs.Dictionary.{headRules, regionRules, entryRows, entryRules, checks, sorted, width, count, offset, start, end, region, name, cuts, outside}
 
 -- PLACES

@@ -1,13 +1,13 @@
 -- What the checks come to, row by row: where all pass, the rules of an accepted dictionary hold; where one stops, that refusal is due.
 -- Accepts.antt and Refuses.antt draw their theorems from it. Assumes nothing.
 use Rattle.rules.proofs.Prelude.{_≡_, refl, sym, ap, _∙_, List, ℕ, _+_, _-_, _<_, arith, Test, Fails, Passed, first, each, _or_, _orElse_, pass, _&_, false-true, unless}
-use Rattle.rules.proofs.Prelude.{never, first-pass, goes, Meant, Cases, by-rows, by-each, meant-then, meant-map, meant-pass}
+use Rattle.rules.proofs.Prelude.{never, goes, Meant, Cases, by-rows, by-each, meant-then, meant-map, meant-pass}
 use Rattle.rules.proofs.Laws.Meant.{all-pass, one-stops}
 use Rattle.part.specs.Part.{part}
 use Rattle.utf8.specs.declared.Verdict.{Verdict}
 use Rattle.utf8.specs.Utf8.{Judged}
 use Rattle.utf8.specs.Utf8.Judged.{whole, cut, broken}
-use Rattle.utf8.proofs.Begins.{judged, judges}
+use Rattle.utf8.proofs.Judges.{judged, judges}
 use Rattle.names.specs.Order.{below}
 use Rattle.names.proofs.Laws.{below-before, before-below}
 use Rattle.metadata.specs.Dictionary.{count, offset, end, region, name, cuts, outside, headRules, regionRules, entryRules, checks}

@@ -1,13 +1,13 @@
 -- The names of an accepted dictionary: exactly when a number gives a name, 31 or a refusal; the bytes where the answer says are the name, and
 -- well-formed text; and the names of a sorted dictionary increase, each before every later one. Assumes nothing.
-use Rattle.rules.proofs.Prelude.{_≡_, refl, _∙_, true, _↔_, _⊎_, ⊎-elim, inl, inr, List, [], _∷_, ℕ, _+_, _-_, _≤_, _<_, decLt, arith, length, take, take-all}
+use Rattle.rules.proofs.Prelude.{_≡_, refl, _∙_, true, _↔_, _⊎_, ⊎-elim, inl, inr, List, [], _∷_, ℕ, _+_, _-_, _<_, decLt, arith, length, take, take-all}
 use Rattle.rules.proofs.Prelude.{take-add, Answer, Found, accept, refuse, first, _orElse_, _≤?_, _⇒_at_, pass, Meant, answered, refused, stops, goes}
 use Rattle.rules.proofs.Prelude.{first-at, first-pass, by-rows, meant-then, meant-map, by-meaning}
 use Rattle.part.specs.Part.{part}
 use Rattle.walk.proofs.Laws.{items-rest}
-use Rattle.utf8.specs.Utf8.{Text, Char, char}
-use Rattle.utf8.proofs.Laws.{chars}
-use Rattle.utf8.proofs.Bounds.{bound}
+use Rattle.chars.specs.Rfc3629.{Text, Char, char}
+use Rattle.chars.proofs.Laws.{chars}
+use Rattle.chars.proofs.Bounds.{bound}
 use Rattle.names.specs.Search.{Rising}
 use Rattle.names.proofs.Search.{rising-all}
 use Rattle.metadata.specs.Dictionary.{sorted, count, offset, end, region, name, checks, nameAt}

@@ -3,10 +3,10 @@
 use Rattle.rules.proofs.Prelude.{_≡_, refl, sym, _∙_, true, _↔_, List, [], _∷_, ℕ, _<_, arith, drop, refuse, first, stop, _&_, surely, first-at, stops, turned-down, refused}
 use Rattle.rules.proofs.Prelude.{false-true, each-pass, each-stop, meant-stop}
 use Rattle.rules.specs.Rules.Test.{is}
-use Rattle.utf8.specs.Utf8.{Begins, LongestText, Completed, begins}
+use Rattle.chars.specs.Rfc3629.{Begins, LongestText, Completed, begins}
+use Rattle.chars.proofs.Begins.{begins-is}
+use Rattle.chars.proofs.Truncated.{truncated}
 use Rattle.utf8.specs.Utf8.Judged.{cut, broken}
-use Rattle.utf8.proofs.Begins.{begins-is}
-use Rattle.utf8.proofs.Truncated.{truncated}
 use Rattle.names.proofs.Laws.{not-below}
 use Rattle.metadata.specs.Dictionary.{count, end, region, entryRules, checks, verdict}
 use Rattle.metadata.specs.Meaning.{Headed, Texted, GoodEntry, Refusal}

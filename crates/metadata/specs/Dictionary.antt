@@ -7,7 +7,8 @@ use lib.Dec.{eqb, ltb}
 use lib.ListN.{length, drop, getD}
 use Rattle.width.specs.Width.{le}
 use Rattle.part.specs.Part.{part}
-use Rattle.utf8.specs.Utf8.{textUpTo, isCut}
+use Rattle.chars.specs.Rfc3629.{textUpTo}
+use Rattle.utf8.specs.Utf8.{isCut}
 use Rattle.names.specs.Order.{below}
 use Rattle.rules.specs.Rules.{Answer, Rule, Test, Found, accept, first, each, _orElse_, _otherwise_}
 use Rattle.rules.specs.Rules.Rule.{_⇒_at_}

@@ -5,7 +5,7 @@ use mathlib.Core.Bool.{true}
 use mathlib.Core.List.{List}
 use Prim.Native.Nat.{ℕ, _+_, _-_, _≤_, _<_}
 use lib.ListN.{length, drop, getD}
-use Rattle.utf8.specs.Utf8.{Text, Cont, Begins, LongestText}
+use Rattle.chars.specs.Rfc3629.{Text, Cont, Begins, LongestText}
 use Rattle.names.specs.Order.{Before}
 use Rattle.metadata.specs.Limits.{limit, u32Max}
 use Rattle.metadata.specs.Dictionary.{version, sorted, width, count, offset, start, end, region, name}

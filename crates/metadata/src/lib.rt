@@ -4,7 +4,7 @@ ghost use mathlib.Core.Bool.{false};
 ghost use Prim.Native.Nat.{_+_, _*_, _≤_, _<_};
 ghost use lib.ListN.{length};
 ghost use Rattle.part.specs.Part.{part};
-ghost use Rattle.utf8.specs.Utf8.{Text};
+ghost use Rattle.chars.specs.Rfc3629.{Text};
 ghost use Rattle.names.specs.Order.{below};
 ghost use Rattle.rules.specs.Rules.{first, each, Says, Fails};
 ghost use Rattle.rules.specs.Rules.Found.{pass};

@@ -1,7 +1,4 @@
-pub mod Table
 pub mod Laws
-pub mod Begins
-pub mod Truncated
+pub mod Judges
 pub mod Local
-pub mod Bounds
 pub mod Pinned

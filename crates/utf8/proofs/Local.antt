@@ -9,11 +9,12 @@ use borrow.Author.Tests.{ltb-false, leb-true, leb-false, eqb-false, le-leb, lt-l
 use lib.Dec.{leb, ltb, eqb}
 use lib.ListN.{length, drop, getD}
 use Rattle.rules.proofs.Laws.{false-true, both, either, neither}
-use Rattle.utf8.specs.declared.Lead.the-variants.{Seq}
-use Rattle.utf8.specs.Utf8.{leadOf, tailsOf, Cont}
+use Rattle.chars.specs.declared.Lead.the-variants.{Seq}
+use Rattle.chars.specs.Rfc3629.{leadOf, tailsOf, Cont}
 use Rattle.utf8.specs.Steps.{Reached, AtMost, wrongOf, RightAt, Rights}
-use Rattle.utf8.proofs.Table.{lead-is}
-use Rattle.utf8.proofs.Laws.{tails-none, tails-in, char-seq, text-go, join-one}
+use Rattle.chars.proofs.Table.{lead-is}
+use Rattle.chars.proofs.Laws.{tails-none, tails-in, char-seq}
+use Rattle.utf8.proofs.Laws.{text-go, join-one}
 
 -- TESTS.
 

@@ -1,11 +1,11 @@
--- What the steps of the check promise each other, in the words of Utf8.antt. Assumes nothing.
+-- What the steps of the check promise each other, in the words of Rfc3629.antt. Assumes nothing.
 use mathlib.Core.Path.{_≡_}
 use mathlib.Core.Bool.{Bool, false, not, Bool·beq, _&&_, _||_}
 use mathlib.Core.List.{List, _∷_}
 use Prim.Native.Nat.{ℕ, _+_, _≤_, _<_}
 use lib.Dec.{eqb, leb, ltb}
 use lib.ListN.{length, drop, getD}
-use Rattle.utf8.specs.Utf8.{textUpTo}
+use Rattle.chars.specs.Rfc3629.{textUpTo}
 
 -- the check has come to i: a text stands before i, and what is left decides how far it goes on
 abbrev pub Reached : List ℕ → ℕ → Type 0

@@ -2,8 +2,8 @@
 ghost use mathlib.Core.Path.{_≡_};
 ghost use mathlib.Core.Bool.{true, false};
 ghost use Prim.Native.Nat.{_+_, _≤_};
-ghost use lib.ListN.{length, drop};
-ghost use Rattle.utf8.specs.Utf8.{leadOf, tailsOf, char, textUpTo, begins};
+ghost use lib.ListN.{length};
+ghost use Rattle.chars.specs.Rfc3629.{textUpTo};
 ghost use Rattle.utf8.specs.Steps.{Reached, AtMost, wrongOf, Rights};
 ghost use Rattle.utf8.specs.Promises.{CheckPromise};
 
@@ -20,88 +20,6 @@ const BLOCK: usize = 64;
 
 // A text that has no block is passed in strides of so many, as long as they are plain.
 const STRIDE: usize = 8;
-
-// What a first byte asks: `rest` bytes after it, the first of those from `lo` to `hi`.
-enum Lead {
-    Bad,
-    Seq { lo: u8, hi: u8, rest: usize },
-}
-
-// A row of the RFC's table.
-fn seq(lo: u8, hi: u8, rest: usize) -> Lead
-    ensures { λ r. ⌜ r ≡ Lead.Seq lo hi rest ⌝ }
-{
-    Lead::Seq { lo, hi, rest }
-}
-
-// A decision on the first byte's range.
-fn classify(a: u8) -> Lead
-    ensures { λ r. ⌜ r ≡ leadOf a ⌝ }
-{
-    match a {
-        0x00..=0x7F => seq(0x80, 0xBF, 0),
-        0xC2..=0xDF => seq(0x80, 0xBF, 1),
-        0xE0 => seq(0xA0, 0xBF, 2),
-        0xE1..=0xEC => seq(0x80, 0xBF, 2),
-        0xED => seq(0x80, 0x9F, 2),
-        0xEE..=0xEF => seq(0x80, 0xBF, 2),
-        0xF0 => seq(0x90, 0xBF, 3),
-        0xF1..=0xF3 => seq(0x80, 0xBF, 3),
-        0xF4 => seq(0x80, 0x8F, 3),
-        _ => Lead::Bad,
-    }
-}
-
-// Whether `rest` bytes stand at `from`, the first from `first` to `last` and the others from 0x80 to 0xBF.
-fn tails(s: &[u8], from: usize, first: u8, last: u8, rest: usize) -> bool
-    ensures { λ r. ⌜ r ≡ tailsOf first last rest (drop from (now (s .entry))) ⌝ }
-{
-    let mut at = from;
-    let mut lo = first;
-    let mut hi = last;
-    let mut left = rest;
-    while 0 < left {
-        if s.len() <= at {
-            return false;
-        }
-        let b = s[at];
-        if b < lo {
-            return false;
-        }
-        if hi < b {
-            return false;
-        }
-        lo = 0x80;
-        hi = 0xBF;
-        at += 1;
-        left -= 1;
-    }
-    true
-}
-
-// The length of the character that starts at `at`; 0 where none does. Most are one byte: these are told before the table is asked.
-fn char_at(s: &[u8], at: usize) -> usize
-    ensures { λ r. ⌜ r ≡ char (drop at (now (s .entry))) ⌝ }
-{
-    if s.len() <= at {
-        return 0;
-    }
-    let first = s[at];
-    if first < 0x80 {
-        return 1;
-    }
-    let lead = classify(first);
-    match lead {
-        Lead::Bad => 0,
-        Lead::Seq { lo, hi, rest } => {
-            if tails(s, at + 1, lo, hi, rest) {
-                rest + 1
-            } else {
-                0
-            }
-        }
-    }
-}
 
 // The larger of two bytes.
 fn larger(a: u8, b: u8) -> u8
@@ -256,33 +174,13 @@ fn valid_len(s: &[u8]) -> usize
 {
     let mut at = begin(s);
     while at < s.len() {
-        let n = char_at(s, at);
+        let n = chars::char_at(s, at);
         if n == 0 {
             return at;
         }
         at += n;
     }
     at
-}
-
-// Whether what stands from `at` to the end is a proper beginning of a character: fewer bytes than the first one asks for, and all of them fit.
-fn begins_at(s: &[u8], at: usize) -> bool
-    ensures { λ r. ⌜ r ≡ begins (drop at (now (s .entry))) ⌝ }
-{
-    if s.len() <= at {
-        return false;
-    }
-    let lead = classify(s[at]);
-    match lead {
-        Lead::Bad => false,
-        Lead::Seq { lo, hi, rest } => {
-            let left = s.len() - at - 1;
-            if rest <= left {
-                return false;
-            }
-            tails(s, at + 1, lo, hi, left)
-        }
-    }
 }
 
 // Whether `s` is a text, and where not, up to where it is one and whether it is cut there.
@@ -294,7 +192,7 @@ pub fn check(s: &[u8]) -> Verdict
     if at == end {
         return Verdict::Whole;
     }
-    if begins_at(s, at) {
+    if chars::begins_at(s, at) {
         return Verdict::Cut(at);
     }
     Verdict::Broken(at)

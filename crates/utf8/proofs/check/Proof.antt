@@ -2,8 +2,8 @@
 use mathlib.Core.Path.{sym, _∙_}
 use native.Mathlib.Omega.{arith}
 use borrow.Author.Needs.{needs}
-use Rattle.utf8.proofs.Laws.{text-le}
-use Rattle.utf8.proofs.Begins.{left-none, left-cut, left-broken}
+use Rattle.chars.proofs.Laws.{text-le}
+use Rattle.utf8.proofs.Judges.{left-none, left-cut, left-broken}
 use Rattle.utf8.proofs.check.Statement.{statement}
 use Rattle.utf8.proofs.check.Tie as tie
 

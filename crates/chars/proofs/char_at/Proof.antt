@@ -1,12 +1,12 @@
--- `utf8::char_at` meets its contract: the first byte's row of the table, and the bytes after it, decide. Assumes nothing.
+-- `chars::char_at` meets its contract: the first byte's row of the table, and the bytes after it, decide. Assumes nothing.
 use mathlib.Core.Path.{sym, _∙_}
 use mathlib.Core.Bool.{true, false}
 use Prim.Native.Nat.{_+_}
 use native.Mathlib.Omega.{arith}
 use borrow.Author.Needs.{needs}
-use Rattle.utf8.proofs.Laws.{char-end, char-plain, char-bad, char-seq, tails-fit}
-use Rattle.utf8.proofs.char_at.Statement.{statement}
-use Rattle.utf8.proofs.char_at.Tie as tie
+use Rattle.chars.proofs.Laws.{char-end, char-plain, char-bad, char-seq, tails-fit}
+use Rattle.chars.proofs.char_at.Statement.{statement}
+use Rattle.chars.proofs.char_at.Tie as tie
 
 pub char-at-spec : {M : Type 1} → statement M
 char-at-spec =

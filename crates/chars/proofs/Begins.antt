@@ -1,29 +1,24 @@
--- The proper beginnings of characters are those that `begins` tells, and so a list is what `verdict` says of it: a text, cut, or broken.
--- Assumes nothing.
-use mathlib.Core.Path.{_≡_, refl, sym, ap, _∙_}
-use mathlib.Core.Bool.{Bool, true, false, cond, _&&_}
+-- The proper beginnings of characters are those that `begins` tells. Assumes nothing.
+use mathlib.Core.Path.{_≡_, refl, ap, _∙_}
+use mathlib.Core.Bool.{true, false, _&&_}
 use mathlib.Core.List.{List, [], _∷_, _++_}
 use mathlib.Core.Logic.{_↔_}
 use Prim.Native.Nat.{ℕ, zero, suc, _+_, _-_, _≤_, _<_}
 use native.Mathlib.Numerals.{add-one}
 use native.Mathlib.Omega.{arith}
-use borrow.Author.Tests.{le-leb, lt-ltb, le-ltb, ltb-true, ltb-false}
+use borrow.Author.Tests.{le-leb, lt-ltb, le-ltb, ltb-true}
 use lib.Dec.{ltb}
-use lib.ListN.{length, take, drop, getD, drop-of-length-le, length-append, length-drop}
+use lib.ListN.{length, drop, getD, drop-of-length-le, length-append, length-drop}
 use lib.Seq.{drop-cons, take-length}
 use Rattle.rules.specs.Rules.Test.{is}
 use Rattle.rules.proofs.Laws.{false-true, both, unless}
-use Rattle.utf8.specs.declared.Lead.{Lead}
-use Rattle.utf8.specs.declared.Lead.the-variants.{Bad, Seq}
-use Rattle.utf8.specs.declared.Verdict.{Verdict}
-use Rattle.utf8.specs.declared.Verdict.the-variants.{Whole, Cut, Broken}
-use Rattle.utf8.specs.Utf8.{Tails, Char, Text, Begins, LongestText, Judged, leadOf, tailsOf, textUpTo, beginsBy, begins, isCut, verdict}
-use Rattle.utf8.specs.Utf8.Tails.{end, next}
-use Rattle.utf8.specs.Utf8.Char.{char-of}
-use Rattle.utf8.specs.Utf8.Judged.{whole, cut, broken}
-use Rattle.utf8.specs.Promises.{CheckPromise}
-use Rattle.utf8.proofs.Table.{followed}
-use Rattle.utf8.proofs.Laws.{tails-length, tails-sound, text-le, text-sound, text-longest, text-whole, text-all}
+use Rattle.chars.specs.declared.Lead.{Lead}
+use Rattle.chars.specs.declared.Lead.the-variants.{Bad, Seq}
+use Rattle.chars.specs.Rfc3629.{Tails, Char, Begins, leadOf, tailsOf, beginsBy, begins}
+use Rattle.chars.specs.Rfc3629.Tails.{end, next}
+use Rattle.chars.specs.Rfc3629.Char.{char-of}
+use Rattle.chars.proofs.Table.{followed}
+use Rattle.chars.proofs.Laws.{tails-length, tails-sound}
 
 -- A PROPER BEGINNING.
 
@@ -80,7 +75,7 @@ begins-one (a ∷ s) b = by-char (b .further) (b .at-least-one) (b .whole)
 pub begins-is : (s : List ℕ) → (begins s ≡ true) ↔ Begins s
 begins-is s = (is-beginning s, begins-one s)
 
-begins-not : (s : List ℕ) → (Begins s → ⊥) → begins s ≡ false
+pub begins-not : (s : List ℕ) → (Begins s → ⊥) → begins s ≡ false
 begins-not s n = unless (is (begins s)) (λ e. n (is-beginning s e))
 
 -- What code goes by, at a place of the list.
@@ -105,46 +100,3 @@ module _ (at : ℕ) (s : List ℕ) where
 
     pub begins-short : length s - at - 1 < n → begins (drop at s) ≡ tailsOf l h (length s - at - 1) (drop (at + 1) s)
     begins-short p = by-seq ∙ rw (lt-ltb (length s - at - 1) n p)
-
--- THE VERDICT, by what is left after the longest text.
-module _ (s : List ℕ) (p : ℕ) (measured : textUpTo s ≡ p) where
-  pub left-cut : begins (drop p s) ≡ true → verdict s ≡ Cut p
-  unfolding verdict isCut
-  left-cut b = rw (measured, b)
-
-  pub left-broken : begins (drop p s) ≡ false → p < length s → verdict s ≡ Broken p
-  unfolding verdict isCut
-  left-broken b l = rw (measured, b, lt-ltb p (length s) l)
-
-  pub left-none : p ≡ length s → verdict s ≡ Whole
-  unfolding verdict isCut
-  left-none e = rw (measured, begins-end p s (omega arith), le-ltb p (length s) (omega arith))
-
--- the longest text is the one that is measured
-pub longest-is : (s : List ℕ) (p : ℕ) → LongestText s p → textUpTo s ≡ p
-longest-is s p l =
-    omega (arith, l .longest (textUpTo s) (text-le s) (text-sound s), text-longest s p (omega arith) (l .is-text))
-
-is-judged : (s : List ℕ) (r : Verdict) → Judged s r → verdict s ≡ r
-is-judged s Whole (whole t) = left-none s (length s) (text-whole s t) refl
-is-judged s (Cut p) (cut l b) = left-cut s p (longest-is s p l) (begins-one (drop p s) b)
-is-judged s (Broken p) (broken l n) = left-broken s p (longest-is s p l) (begins-not (drop p s) n) (l .short)
-
-pub judged : (s : List ℕ) → Judged s (verdict s)
-unfolding verdict isCut
-judged s = go (begins (drop (textUpTo s) s)) refl (ltb (textUpTo s) (length s)) refl
-  where
-    longest : textUpTo s < length s → LongestText s (textUpTo s)
-    longest h = record { short = h; is-text = text-sound s; longest = text-longest s }
-
-    go : (b : Bool) → begins (drop (textUpTo s) s) ≡ b → (c : Bool) → ltb (textUpTo s) (length s) ≡ c
-        → Judged s (cond b (Cut (textUpTo s)) (cond c (Broken (textUpTo s)) Whole))
-    go true e c f =
-        let b = is-beginning (drop (textUpTo s) s) e in
-        cut (longest (omega (arith, b .some, length-drop (textUpTo s) s))) b
-    go false e true f = broken (longest (ltb-true _ _ f)) (λ b. false-true (sym e ∙ begins-one _ b))
-    go false e false f = whole (text-all s (ltb-false _ _ f))
-
--- THE THEOREM: what `check` answers is what the list is
-pub judges : (s : List ℕ) (r : Verdict) → CheckPromise s r ↔ Judged s r
-judges s r = (λ e. rw e (judged s), λ j. sym (is-judged s r j))

@@ -1,11 +1,11 @@
--- `utf8::tails` meets its contract: what is left to look at decides as the whole does. Assumes nothing.
+-- `chars::tails` meets its contract: what is left to look at decides as the whole does. Assumes nothing.
 use mathlib.Core.Path.{_≡_, refl, sym, _∙_}
 use native.Mathlib.Omega.{arith}
 use lib.ListN.{drop}
-use Rattle.utf8.specs.Utf8.{tailsOf}
-use Rattle.utf8.proofs.Laws.{tails-none, tails-cut, tails-low, tails-high, tails-in}
-use Rattle.utf8.proofs.tails.Statement.{statement}
-use Rattle.utf8.proofs.tails.Tie as tie
+use Rattle.chars.specs.Rfc3629.{tailsOf}
+use Rattle.chars.proofs.Laws.{tails-none, tails-cut, tails-low, tails-high, tails-in}
+use Rattle.chars.proofs.tails.Statement.{statement}
+use Rattle.chars.proofs.tails.Tie as tie
 
 abbrev Inv-loop : tie.InvT-loop
 Inv-loop s from first last rest at₀ lo₀ hi₀ left₀ at lo hi left = tailsOf first last rest (drop from s) ≡ tailsOf lo hi left (drop at s)

@@ -10,9 +10,8 @@ use lib.ListN.{length, take, drop, take-append-drop, length-append, length-drop}
 use lib.Seq.{take-append-le, take-append-add, length-take-le}
 use Rattle.walk.specs.Walk.Items.{none, more}
 use Rattle.walk.proofs.Laws.{items-append, items-rest}
-use Rattle.utf8.specs.Utf8.{Char, Text, Begins, Completed, LongestText, char}
-use Rattle.utf8.proofs.Laws.{chars, text-left}
-use Rattle.utf8.proofs.Begins.{longest-is}
+use Rattle.chars.specs.Rfc3629.{Char, Text, Begins, Completed, LongestText, char}
+use Rattle.chars.proofs.Laws.{chars, text-left, longest-is}
 
 -- a text that is not empty starts with a character
 text-starts : {u : List ℕ} → Text u → 0 < length u → 0 < char u

@@ -1,10 +1,10 @@
--- `utf8::begins_at` meets its contract: what the first byte asks for, against what is left. Assumes nothing.
+-- `chars::begins_at` meets its contract: what the first byte asks for, against what is left. Assumes nothing.
 use mathlib.Core.Path.{sym, _∙_}
 use native.Mathlib.Omega.{arith}
 use borrow.Author.Needs.{needs}
-use Rattle.utf8.proofs.Begins.{begins-end, begins-bad, begins-long, begins-short}
-use Rattle.utf8.proofs.begins_at.Statement.{statement}
-use Rattle.utf8.proofs.begins_at.Tie as tie
+use Rattle.chars.proofs.Begins.{begins-end, begins-bad, begins-long, begins-short}
+use Rattle.chars.proofs.begins_at.Statement.{statement}
+use Rattle.chars.proofs.begins_at.Tie as tie
 
 pub begins-at-spec : {M : Type 1} → statement M
 begins-at-spec =

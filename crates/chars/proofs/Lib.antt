@@ -1,0 +1,6 @@
+pub mod Table
+pub mod Laws
+pub mod Bounds
+pub mod Begins
+pub mod Truncated
+pub mod Pinned
