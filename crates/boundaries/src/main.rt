@@ -82,33 +82,42 @@ fn long_lead(n: usize) -> u8 {
     (0xF0 + n % 5) as u8
 }
 
+fn of_three(a: u8, b: u8, c: u8) -> Case
+    ensures { λ r. ⌜ r .len ≤ length (r .bytes) ⌝ }
+{
+    Case {
+        bytes: [a, b, c, 0],
+        len: 3,
+    }
+}
+
+fn of_four(a: u8, b: u8, c: u8, d: u8) -> Case
+    ensures { λ r. ⌜ r .len ≤ length (r .bytes) ⌝ }
+{
+    Case {
+        bytes: [a, b, c, d],
+        len: 4,
+    }
+}
+
 // The beginnings of 2 bytes that are not alone, and those of 3.
 fn beginning(number: usize) -> Case
     ensures { λ r. ⌜ r .len ≤ length (r .bytes) ⌝ }
 {
     if number < UNFIT_PAIRS {
-        return Case {
-            bytes: [lead(number / 128), tail(number / 2), unfit(number), 0],
-            len: 3,
-        };
+        return of_three(lead(number / 128), tail(number / 2), unfit(number));
     }
     let three = number - UNFIT_PAIRS;
     if three < TRIPLES {
-        return Case {
-            bytes: [long_lead(three / 4096), tail(three / 64), tail(three), 0],
-            len: 3,
-        };
+        return of_three(long_lead(three / 4096), tail(three / 64), tail(three));
     }
     let four = three - TRIPLES;
-    Case {
-        bytes: [
-            long_lead(four / 8192),
-            tail(four / 128),
-            tail(four / 2),
-            unfit(four),
-        ],
-        len: 4,
-    }
+    of_four(
+        long_lead(four / 8192),
+        tail(four / 128),
+        tail(four / 2),
+        unfit(four),
+    )
 }
 
 // The case of a number below CASES.
@@ -130,22 +139,16 @@ fn case_of(number: usize) -> Case
     }
     let three = two - TWOS;
     if three < THREES {
-        return Case {
-            bytes: [edge(three / 1444), edge(three / 38), edge(three), 0],
-            len: 3,
-        };
+        return of_three(edge(three / 1444), edge(three / 38), edge(three));
     }
     let four = three - THREES;
     if four < FOURS {
-        return Case {
-            bytes: [
-                first_of_four(four / 5776),
-                edge(four / 152),
-                edge(four / 4),
-                fourth(four),
-            ],
-            len: 4,
-        };
+        return of_four(
+            first_of_four(four / 5776),
+            edge(four / 152),
+            edge(four / 4),
+            fourth(four),
+        );
     }
     beginning(four - FOURS)
 }

@@ -1,9 +1,12 @@
 -- What a host learns from each call, whatever code was returned (specs/Host.antt); and no word of any answer is too large for its four bytes.
 -- Assumes nothing.
-use Rattle.rules.proofs.Prelude.{_≡_, refl, ap, _∙_, List, _++_, ℕ, _*_, _<_, decLt, arith, lt-ltb, le-ltb, length, drop, codeOf, by-meaning}
+use Rattle.rules.proofs.Prelude.{_≡_, refl, ap, _∙_, List, _++_, ℕ, _*_, _≤_, _<_, decLt, arith, lt-ltb, le-ltb, length, drop, codeOf, by-meaning}
+use Rattle.chars.specs.Rfc3629.{Completed}
 use Rattle.metadata.specs.Dictionary as dictionary
+use Rattle.metadata.specs.Meaning.{Refusal}
 use Rattle.metadata.proofs.Means as dictionary-means
 use Rattle.metadata.proofs.Refuses as dictionary-refuses
+use Rattle.metadata.proofs.Refuses.{NoText}
 use Rattle.metadata.proofs.Names as dictionary-names
 use Rattle.metadata.proofs.Fits as dictionary-fits
 use Rattle.metadata.proofs.Says.{too-small, enough}
@@ -69,6 +72,22 @@ module _ (d o : List ℕ) where
 module _ (strip : List ℕ) (code : ℕ) (after : List ℕ) where
   pub dictionary-tells : (d : List ℕ) → DictionaryPromise d strip code after → Tells (DictionarySays d) strip code after
   dictionary-tells d l = tells _ strip _ code after l (dictionary-said d)
+
+  module _ (d : List ℕ) (promised : DictionaryPromise d strip code after) where
+    -- it returned a dictionary's refusal: that is due, at the strip's place
+    pub returned-refusal : 10 ≤ code → code < 40 → Refusal d code (word after 4)
+    returned-refusal p q = go (dictionary-tells d promised .says (λ f. omega arith) .1) p
+      where
+        go : {c n s e p : ℕ} → DictionarySays d c n s e p → 10 ≤ c → Refusal d c p
+        go (accepted g) p = absurd (omega arith)
+        go (dictionary-refused b t r) p = r
+
+    -- 19: the names are no text, and there are further bytes with which they are one; 16: there are none
+    pub returned-cut : code ≡ 19 → NoText d (word after 4) × Completed (dictionary.region d)
+    returned-cut z = dictionary-refuses.cut-off d _ .0 (rw z at (returned-refusal (omega arith) (omega arith)))
+
+    pub returned-corrupt : code ≡ 16 → NoText d (word after 4) × (Completed (dictionary.region d) → ⊥)
+    returned-corrupt z = dictionary-refuses.corrupt d _ .0 (rw z at (returned-refusal (omega arith) (omega arith)))
 
   pub name-tells : (d : List ℕ) (i : ℕ) → NamePromise d i strip code after → Tells (NameSays d i) strip code after
   name-tells d i l = tells _ strip _ code after l (name-said d i)

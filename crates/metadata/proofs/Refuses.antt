@@ -1,10 +1,8 @@
 -- A dictionary is refused, with a number and a place, exactly when document 01's table says so, its checks taken in their order (the data
 -- type `Refusal` of specs/Meaning.antt). Assumes nothing.
-use Rattle.rules.proofs.Prelude.{_≡_, refl, sym, _∙_, true, _↔_, List, [], _∷_, ℕ, _<_, arith, drop, refuse, first, stop, _&_, surely, first-at, stops, turned-down, refused}
-use Rattle.rules.proofs.Prelude.{false-true, each-pass, each-stop, meant-stop}
-use Rattle.rules.specs.Rules.Test.{is}
-use Rattle.chars.specs.Rfc3629.{Begins, LongestText, Completed, begins}
-use Rattle.chars.proofs.Begins.{begins-is}
+use Rattle.rules.proofs.Prelude.{_≡_, refl, sym, _∙_, _↔_, List, [], _∷_, ℕ, _<_, arith, refuse, first, stop, _&_, surely, first-at, stops, turned-down, refused}
+use Rattle.rules.proofs.Prelude.{each-pass, each-stop, meant-stop}
+use Rattle.chars.specs.Rfc3629.{LongestText, Completed}
 use Rattle.chars.proofs.Truncated.{truncated}
 use Rattle.utf8.specs.Utf8.Judged.{cut, broken}
 use Rattle.names.proofs.Laws.{not-below}
@@ -42,25 +40,19 @@ pub refuses : (d : List ℕ) (c p : ℕ) → (verdict d ≡ refuse c p) ↔ Refu
 unfolding verdict
 refuses d c p = (λ v. meant-stop (checks-mean d) (turned-down (checks d) (count d) (end d ∷ []) v), λ r. refused _ (is-due d r))
 
--- WHAT SUPPORT ASKS: 19 says that the text lost its end, 16 that no further bytes mend it.
-module _ (d : List ℕ) (p : ℕ) (headed : Headed d) (longest : LongestText (region d) p) where
-  mends : Begins (drop p (region d)) ↔ Completed (region d)
-  mends = truncated (region d) p longest
+-- WHAT SUPPORT ASKS: of names that are no text, 19 says that there are further bytes with which they are one, and 16 that there are none.
+module _ (d : List ℕ) (p : ℕ) where
+  abbrev pub NoText : Type 0
+  NoText = Headed d × LongestText (region d) p
 
-  is-19 : Completed (region d) → verdict d ≡ refuse 19 p
-  is-19 c = refuses d 19 p .1 (cut-text headed longest (mends .1 c))
+  pub cut-off : Refusal d 19 p ↔ (NoText × Completed (region d))
+  cut-off = (to, λ t. cut-text (t .0 .0) (t .0 .1) (truncated (region d) p (t .0 .1) .1 (t .1)))
+    where
+      to : Refusal d 19 p → NoText × Completed (region d)
+      to (cut-text h l b) = ((h, l), truncated (region d) p l .0 b)
 
-  is-16 : (Completed (region d) → ⊥) → verdict d ≡ refuse 16 p
-  is-16 n = refuses d 16 p .1 (no-text headed longest (λ b. n (mends .0 b)))
-
-  never-both : verdict d ≡ refuse 16 p → verdict d ≡ refuse 19 p → ⊥
-  never-both a b = let z : _≡_ {A = ℕ} 16 19 = cc in omega arith
-
-  begun : verdict d ≡ refuse 19 p → begins (drop p (region d)) ≡ true
-  begun e = surely (is (begins (drop p (region d)))) (λ f. never-both (is-16 (λ c. false-true (sym f ∙ begins-is _ .1 (mends .1 c)))) e)
-
-  pub cut-off : (verdict d ≡ refuse 19 p) ↔ Completed (region d)
-  cut-off = (λ e. mends .0 (begins-is _ .0 (begun e)), is-19)
-
-  pub corrupt : (verdict d ≡ refuse 16 p) ↔ (Completed (region d) → ⊥)
-  corrupt = (λ e c. never-both e (is-19 c), is-16)
+  pub corrupt : Refusal d 16 p ↔ (NoText × (Completed (region d) → ⊥))
+  corrupt = (to, λ t. no-text (t .0 .0) (t .0 .1) (λ b. t .1 (truncated (region d) p (t .0 .1) .0 b)))
+    where
+      to : Refusal d 16 p → NoText × (Completed (region d) → ⊥)
+      to (no-text h l n) = ((h, l), λ c. n (truncated (region d) p l .1 c))

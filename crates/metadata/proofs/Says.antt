@@ -2,21 +2,23 @@
 -- the call's promise is meant. Assumes nothing.
 use Rattle.rules.proofs.Prelude.{_≡_, sym, _∙_, true, false, _↔_, List, [], _++_, ℕ, _≤_, _<_, arith, lt-ltb, le-ltb, length, drop, refuse, accept, _<?_}
 use Rattle.rules.proofs.Prelude.{_≤?_, swap, false-true, unless, first-at, first-pass, refused, answered, meant-stop}
+use Rattle.chars.specs.Rfc3629.{Completed}
 use Rattle.metadata.specs.declared.Refusal.{Refusal}
+use Rattle.metadata.specs.declared.Refusal.the-variants.{NotUtf8, CutText}
 use Rattle.metadata.specs.declared.Span.{Span}
 use Rattle.metadata.specs.declared.Header.{Header}
 use Rattle.metadata.specs.declared.Verdict.the-variants as verdict
 use Rattle.metadata.specs.declared.Entry.the-variants as entry
 use Rattle.metadata.specs.declared.Written.the-variants as written
 use Rattle.metadata.specs.declared.Head.the-variants as head
-use Rattle.metadata.specs.Dictionary.{emptyBytes, emptied, roomAfter}
+use Rattle.metadata.specs.Dictionary.{region, emptyBytes, emptied, roomAfter}
 use Rattle.metadata.specs.Answers.{refusalNumber, refusalPlace}
 use Rattle.metadata.specs.Meaning.{Dictionary, Refusal as Due, Named, NoEntry}
 use Rattle.metadata.specs.Steps.{CheckedOf}
 use Rattle.metadata.specs.Promises.{CheckPromise, GetPromise, WriteEmptyPromise}
 use Rattle.metadata.proofs.Means.{good, checks-mean}
 use Rattle.metadata.proofs.Accepts.{accepts}
-use Rattle.metadata.proofs.Refuses.{is-due, refuses}
+use Rattle.metadata.proofs.Refuses.{is-due, refuses, NoText, cut-off, corrupt}
 use Rattle.metadata.proofs.Names.{named, no-entry, refused-is}
 use Rattle.metadata.proofs.Pinned.{refusalBy, refusal-back}
 
@@ -32,6 +34,12 @@ module _ (d : List ℕ) where
 
   pub check-refused : (r : Refusal) → CheckPromise d (verdict.Refused r) ↔ Due d (refusalNumber r) (refusalPlace r)
   check-refused r = swap (refuses d (refusalNumber r) (refusalPlace r))
+
+  pub check-cut : (p : ℕ) → CheckPromise d (verdict.Refused (CutText p)) ↔ (NoText d p × Completed (region d))
+  check-cut p = (λ e. cut-off d p .0 (check-refused (CutText p) .0 e), λ t. check-refused (CutText p) .1 (cut-off d p .1 t))
+
+  pub check-corrupt : (p : ℕ) → CheckPromise d (verdict.Refused (NotUtf8 p)) ↔ (NoText d p × (Completed (region d) → ⊥))
+  check-corrupt p = (λ e. corrupt d p .0 (check-refused (NotUtf8 p) .0 e), λ t. check-refused (NotUtf8 p) .1 (corrupt d p .1 t))
 
   -- `checked`
   pub checked-good : (h : Header) → CheckedOf d (head.Good h) → Dictionary d (h .count) (h .end)
