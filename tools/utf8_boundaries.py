@@ -17,7 +17,7 @@ So all proper beginnings of all characters are there, each alone and followed by
 The answer to each is one character: the length of the longest well-formed text that the input starts with, as a digit; or, where what is
 left is the beginning of a character, a letter, `a` for 0, `b` for 1 and so on. Both are told by Python's strict utf-8 codec, which shares
 nothing with crates/utf8: where it stops, and whether for an unexpected end. (Its incremental decoder is no judge of that: it waits for
-more after ED A0, which begins a surrogate, since another of its modes takes these.) A line has 100 answers.
+more after ED A0, with which no character begins.) A line has 100 answers.
 """
 
 import itertools

@@ -38,7 +38,8 @@ const LONGER: [&str; 5] = ["é", "€", "😀", "aé", "aé€😀"];
 /// What stands in place of one of their bytes.
 const CHANGES: [u8; 7] = [b'a', 0x80, 0xBF, 0xC3, 0xE2, 0xF0, 0xFF];
 
-/// Plain bytes before the beginning of a character: it stands alone, or in the first two blocks.
+/// Plain bytes before the beginning of a character: it stands alone, or at the end of a name that
+/// is just short of a block or just has one.
 const BEFORE: [usize; 2] = [0, 65];
 
 /// How two names end that begin alike.
