@@ -20,19 +20,21 @@
  *     another buffer of the same call.
  *   - words is aligned as a uint32_t is.
  *
- * THE STRIP. The answer goes to the first 20 bytes of a buffer of yours: five
- * numbers of 32 bits, each with its lowest byte first, whatever the machine.
+ * THE STRIP. The answer goes to the first LICHENHUSK_STRIP_BYTES of a buffer of
+ * yours: six numbers of 32 bits, each with its lowest byte first, whatever the
+ * machine.
  *
  *   bytes  0 to 3    the code: one of the numbers of the enum below
  *   bytes  4 to 7    a number: which one, each function says
- *   bytes  8 to 11   start
- *   bytes 12 to 15   end (the first byte that no longer belongs)
- *   bytes 16 to 19   the place of a refusal
+ *   bytes  8 to 11   the id: the dictionary's entry that is a found field's name
+ *   bytes 12 to 15   start
+ *   bytes 16 to 19   end (the first byte that no longer belongs)
+ *   bytes 20 to 23   the place of a refusal
  *
  * A word that has no use in an answer is 0; on a refusal, all but the code and
- * the place. Bytes after the first 20 stay as they are. The code is also what
- * the function returns. If the strip is shorter than 20 bytes, the function
- * returns 40 before anything else is looked at, and writes nothing.
+ * the place. Bytes after these stay as they are. The code is also what the
+ * function returns. If the strip is shorter than LICHENHUSK_STRIP_BYTES, the
+ * function returns 40 before anything else is looked at, and writes nothing.
  *
  * The TRIMMED END of a dictionary or an object is where its own bytes end, by
  * its own offsets. Bytes after it are ignored.
@@ -52,8 +54,9 @@
  *       switch (lichenhusk_lookup(dict, sizeof dict, object, sizeof object,
  *                                 name, sizeof name, strip, sizeof strip)) {
  *       case LICHENHUSK_OK:
- *           printf("field %u, bytes %u to %u\n",
+ *           printf("field %u, entry %u, bytes %u to %u\n",
  *                  (unsigned) lichenhusk_word(strip, LICHENHUSK_NUMBER),
+ *                  (unsigned) lichenhusk_word(strip, LICHENHUSK_ID),
  *                  (unsigned) lichenhusk_word(strip, LICHENHUSK_START),
  *                  (unsigned) lichenhusk_word(strip, LICHENHUSK_END));
  *           return 0;
@@ -68,7 +71,7 @@
  *       }
  *   }
  *
- * It prints "field 0, bytes 8 to 10". The functions are in the archive
+ * It prints "field 0, entry 0, bytes 8 to 10". The functions are in the archive
  * liblichenhusk.a. `make install PREFIX=..` puts it below a prefix, with this
  * header and a lichenhusk.pc, and then
  *
@@ -93,7 +96,7 @@ enum {
     /* The most bytes that a dictionary, or an object, may have. */
     LICHENHUSK_LIMIT = 65536,
     /* The bytes of a strip that are written. */
-    LICHENHUSK_STRIP_BYTES = 20,
+    LICHENHUSK_STRIP_BYTES = 24,
     /* The words of a listing for each field: id, start, span. */
     LICHENHUSK_WORDS_PER_FIELD = 3,
     /* The bytes of the empty dictionary. */
@@ -104,9 +107,10 @@ enum {
 enum lichenhusk_word_index {
     LICHENHUSK_CODE = 0,
     LICHENHUSK_NUMBER = 1,
-    LICHENHUSK_START = 2,
-    LICHENHUSK_END = 3,
-    LICHENHUSK_PLACE = 4
+    LICHENHUSK_ID = 2,
+    LICHENHUSK_START = 3,
+    LICHENHUSK_END = 4,
+    LICHENHUSK_PLACE = 5
 };
 
 /*
@@ -171,7 +175,7 @@ enum lichenhusk_code {
     /* The dictionary has no entry of that number. */
     LICHENHUSK_NO_SUCH_ENTRY = 31,
 
-    /* The strip is shorter than 20 bytes. Nothing is written. */
+    /* The strip is shorter than LICHENHUSK_STRIP_BYTES. Nothing is written. */
     LICHENHUSK_STRIP_TOO_SHORT = 40,
     /* Fewer than three words of room for each field. No word is written. */
     LICHENHUSK_WORDS_TOO_FEW = 41,
@@ -194,6 +198,8 @@ static inline uint32_t lichenhusk_word(const uint8_t *strip, enum lichenhusk_wor
  * 0: number is the field (counted from 0 in the object's order), and its child
  *    is the object's bytes from start to end. The end is the object's trimmed
  *    end, so other children may follow within; the child may have no bytes.
+ *    id is the field's entry in the dictionary: lichenhusk_name of that entry
+ *    gives the bytes of the name that was looked for.
  * 1: there is no such field.
  * Otherwise a refusal: 10 to 19, 20 to 27, or 40.
  */
@@ -205,7 +211,7 @@ uint32_t lichenhusk_lookup(const uint8_t *dict, size_t dict_len,
 /*
  * Checks the dictionary.
  *
- * 0: number is its entry count, start is 0, end is its trimmed end.
+ * 0: number is its entry count, end is its trimmed end.
  * Otherwise a refusal: 10 to 19, or 40.
  */
 uint32_t lichenhusk_dictionary(const uint8_t *dict, size_t dict_len,
@@ -214,7 +220,7 @@ uint32_t lichenhusk_dictionary(const uint8_t *dict, size_t dict_len,
 /*
  * Checks the dictionary and finds the name of an entry, counted from 0.
  *
- * 0: number is 0, and the name is the dictionary's bytes from start to end.
+ * 0: the name is the dictionary's bytes from start to end.
  * Otherwise a refusal: 10 to 19, then 31, or 40.
  */
 uint32_t lichenhusk_name(const uint8_t *dict, size_t dict_len, size_t entry,

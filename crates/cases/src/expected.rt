@@ -28,7 +28,7 @@ pub fn see(text: &[u8], from: usize, want: usize) -> Seen {
     }
 }
 
-fn see_five(text: &[u8], a: Answer) -> Seen {
+fn see_six(text: &[u8], a: Answer) -> Seen {
     let code = see(text, 0, a.code);
     if !code.same {
         return code;
@@ -37,7 +37,11 @@ fn see_five(text: &[u8], a: Answer) -> Seen {
     if !number.same {
         return number;
     }
-    let start = see(text, number.next, a.start);
+    let id = see(text, number.next, a.id);
+    if !id.same {
+        return id;
+    }
+    let start = see(text, id.next, a.start);
     if !start.same {
         return start;
     }
@@ -55,11 +59,11 @@ pub fn ends(text: &[u8], from: usize) -> bool {
 }
 
 fn answered(text: &[u8], a: Answer) -> bool {
-    let five = see_five(text, a);
-    if !five.same {
+    let six = see_six(text, a);
+    if !six.same {
         return false;
     }
-    ends(text, five.next)
+    ends(text, six.next)
 }
 
 fn listed_words(text: &[u8], from: usize, words: &[u32]) -> bool {
@@ -76,11 +80,11 @@ fn listed_words(text: &[u8], from: usize, words: &[u32]) -> bool {
 
 // The words that were written: three a field.
 fn listed(text: &[u8], a: Answer, words: &[u32]) -> bool {
-    let five = see_five(text, a);
-    if !five.same {
+    let six = see_six(text, a);
+    if !six.same {
         return false;
     }
-    let colon = word(text, five.next);
+    let colon = word(text, six.next);
     let p = colon.start;
     let q = colon.end;
     if !check::same(&text[p..q], b":") {

@@ -269,7 +269,7 @@ fn filled(words: &[u32], count: usize) -> usize
     3 * count
 }
 
-// An answer as a line has it: five numbers, and for a listing ` :` and its words; or `? ` and why the line is no case.
+// An answer as a line has it: six numbers, and for a listing ` :` and its words; or `? ` and why the line is no case.
 pub fn write(outcome: Outcome, words: &[u32]) {
     match outcome {
         Outcome::Answered(a) => {

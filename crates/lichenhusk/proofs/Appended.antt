@@ -1,61 +1,52 @@
 -- Bytes added to the dictionary, to the object or to both, within the limit: what a call returned and left meets its promise for the more
 -- bytes too, so that it returns and leaves the same (Pinned), unless the code was "empty" or "short". Assumes nothing.
-use Rattle.rules.proofs.Prelude.{_≡_, refl, _∙_, List, _++_, ℕ, _≤_, _<_, decLt, arith, lt-ltb, le-ltb, length, getD, Answer, codeOf, gives}
+use Rattle.rules.proofs.Prelude.{_≡_, _∙_, List, _++_, ℕ, _≤_, _<_, decLt, arith, lt-ltb, le-ltb, length, Answer, codeOf}
 use Rattle.metadata.specs.Limits.{limit}
 use Rattle.metadata.proofs.Appended.{appended, name-appended}
 use Rattle.object.proofs.Appended.{Settled, verdict-appended}
 use Rattle.lookup.proofs.Appended.{lookup-appended}
 use Rattle.listing.specs.Words.{listed}
 use Rattle.listing.proofs.Appended.{listed-appended, words-appended}
-use Rattle.words.specs.Five.{fieldWords, dictionaryWords, nameWords}
+use Rattle.words.specs.Six.{Shape, wordsOf, lookupShape, layerShape, dictionaryShape, nameShape, stripBytes}
 use Rattle.lichenhusk.specs.Strip.{returned, stripAfter, listAfter}
 use Rattle.lichenhusk.specs.Promises.{Left, DictionaryPromise, NamePromise, LayerPromise, LookupPromise, ListPromise}
-
--- THE FIRST WORD IS THE CODE
-field-code : (x : Answer) → getD (fieldWords x) 0 0 ≡ codeOf x
-field-code (gives c v p) = refl
-
-dictionary-code : (x : Answer) → getD (dictionaryWords x) 0 0 ≡ codeOf x
-dictionary-code (gives c v p) = refl
-
-name-code : (x : Answer) → getD (nameWords x) 0 0 ≡ codeOf x
-name-code (gives c v p) = refl
+use Rattle.lichenhusk.proofs.Carries.{first-is}
 
 -- an answer that its code keeps is left as it was; with 40 nothing is looked at
-module _ (words : Answer → List ℕ) (first-is : (x : Answer) → getD (words x) 0 0 ≡ codeOf x) (strip : List ℕ) (x y : Answer) {code : ℕ} {after : List ℕ} where
-  keeps : (code ≡ codeOf x → y ≡ x) → Left strip (words x) code after → Left strip (words y) code after
+module _ (shape : Shape) (strip : List ℕ) (x y : Answer) {code : ℕ} {after : List ℕ} where
+  keeps : (code ≡ codeOf x → y ≡ x) → Left strip (wordsOf shape x) code after → Left strip (wordsOf shape y) code after
   unfolding returned stripAfter
-  keeps same l = go (decLt (length strip) 20)
+  keeps same l = go (decLt (length strip) stripBytes)
     where
-      go : Dec (length strip < 20) → Left strip (words y) code after
-      go (yes h) = let t = lt-ltb (length strip) 20 h in record { returns = rw t (rw t at (l .returns)); leaves = rw t (rw t at (l .leaves)) }
-      go (no h) = let t = le-ltb (length strip) 20 (omega arith) in rw (same ((rw t at (l .returns)) ∙ first-is x)) l
+      go : Dec (length strip < stripBytes) → Left strip (wordsOf shape y) code after
+      go (yes h) = let t = lt-ltb (length strip) stripBytes h in record { returns = rw t (rw t at (l .returns)); leaves = rw t (rw t at (l .leaves)) }
+      go (no h) = let t = le-ltb (length strip) stripBytes (omega arith) in rw (same ((rw t at (l .returns)) ∙ first-is shape x)) l
 
 -- THE THEOREMS, by the code that was returned
 module _ (d t strip : List ℕ) (fits : length (d ++ t) ≤ limit) {code : ℕ} {after : List ℕ} where
   pub dictionary-kept : (code ≡ 11 → ⊥) → (code ≡ 13 → ⊥) → DictionaryPromise d strip code after → DictionaryPromise (d ++ t) strip code after
-  dictionary-kept m n = keeps dictionaryWords dictionary-code strip _ _ (λ c. appended d t fits (λ w. m (c ∙ w)) (λ w. n (c ∙ w)))
+  dictionary-kept m n = keeps dictionaryShape strip _ _ (λ c. appended d t fits (λ w. m (c ∙ w)) (λ w. n (c ∙ w)))
 
   pub name-kept : (i : ℕ) → (code ≡ 11 → ⊥) → (code ≡ 13 → ⊥) → NamePromise d i strip code after → NamePromise (d ++ t) i strip code after
-  name-kept i m n = keeps nameWords name-code strip _ _ (λ c. name-appended d t i fits (λ w. m (c ∙ w)) (λ w. n (c ∙ w)))
+  name-kept i m n = keeps nameShape strip _ _ (λ c. name-appended d t i fits (λ w. m (c ∙ w)) (λ w. n (c ∙ w)))
 
   module _ (o u : List ℕ) (object-fits : length (o ++ u) ≤ limit) (settled : Settled code) where
     pub layer-kept : LayerPromise d o strip code after → LayerPromise (d ++ t) (o ++ u) strip code after
-    layer-kept = keeps fieldWords field-code strip _ _ (λ c. verdict-appended d t o u fits object-fits (rw c at settled))
+    layer-kept = keeps layerShape strip _ _ (λ c. verdict-appended d t o u fits object-fits (rw c at settled))
 
     pub lookup-kept : (q : List ℕ) → LookupPromise d o q strip code after → LookupPromise (d ++ t) (o ++ u) q strip code after
-    lookup-kept q = keeps fieldWords field-code strip _ _ (λ c. lookup-appended d t o u q fits object-fits (rw c at settled))
+    lookup-kept q = keeps lookupShape strip _ _ (λ c. lookup-appended d t o u q fits object-fits (rw c at settled))
 
     pub list-kept : (w wordsAfter : List ℕ) → ListPromise d o w strip code after wordsAfter → ListPromise (d ++ t) (o ++ u) w strip code after wordsAfter
     unfolding listAfter returned
     list-kept w wordsAfter p = record {
-      strip-left = keeps fieldWords field-code strip _ _ (λ c. listed-appended d t o u w fits object-fits (rw c at settled)) (p .strip-left);
-      words-left = p .words-left ∙ go (decLt (length strip) 20);
+      strip-left = keeps layerShape strip _ _ (λ c. listed-appended d t o u w fits object-fits (rw c at settled)) (p .strip-left);
+      words-left = p .words-left ∙ go (decLt (length strip) stripBytes);
     }
       where
-        go : Dec (length strip < 20) → listAfter d o w strip ≡ listAfter (d ++ t) (o ++ u) w strip
-        go (yes h) = rw (lt-ltb (length strip) 20 h)
+        go : Dec (length strip < stripBytes) → listAfter d o w strip ≡ listAfter (d ++ t) (o ++ u) w strip
+        go (yes h) = rw (lt-ltb (length strip) stripBytes h)
         go (no h) =
-            let long = le-ltb (length strip) 20 (omega arith) in
-            let c = (rw long at (p .strip-left .returns)) ∙ field-code (listed d o w) in
+            let long = le-ltb (length strip) stripBytes (omega arith) in
+            let c = (rw long at (p .strip-left .returns)) ∙ first-is layerShape (listed d o w) in
             let kept : Settled (codeOf (listed d o w)) = rw c at settled in rw (long, words-appended d t o u w fits object-fits kept)

@@ -1,5 +1,5 @@
--- None of document 01's six wrong versions meets its promise, by the worked cases: a function that meets it and is one of them cannot be.
--- Assumes nothing.
+-- None of document 01's six wrong versions meets its promise, nor one for request c), by the worked cases: a function that meets it and is one
+-- of them cannot be. Assumes nothing.
 use Rattle.rules.proofs.Prelude.{_≡_, ap, List, [], _∷_, ℕ, arith, getD, replicate, accept}
 use denote.Ref.{RefT}
 use Rattle.metadata.specs.declared.Refusal.the-variants.{Short}
@@ -11,6 +11,7 @@ use Rattle.lookup.specs.declared.Lookup.{Lookup}
 use Rattle.lookup.specs.declared.Lookup.the-variants as lookup
 use Rattle.lookup.specs.ByName as by-name
 use Rattle.lookup.specs.Promises.{GetPromise, ChildPromise}
+use Rattle.lookup.proofs.Pinned.{get-pinned}
 use Rattle.listing.specs.declared.Listing.{Listing}
 use Rattle.listing.specs.Promises.{ListPromise}
 use Rattle.lichenhusk.specs.Worked.{Told, D, P, flow, roll}
@@ -27,6 +28,10 @@ none = 0x01 ∷ 0x00 ∷ 0x00 ∷ []
 
 abbrev two : List ℕ
 two = 0x01 ∷ 0x02 ∷ 0x00 ∷ 0x01 ∷ 0x02 ∷ 0x61 ∷ 0x61 ∷ []
+
+-- an object of one field, "roll", whose id is 1
+abbrev alone : List ℕ
+alone = 0x02 ∷ 0x01 ∷ 0x01 ∷ 0x00 ∷ 0x01 ∷ 0x0C ∷ []
 
 module _ (check : List ℕ → Verdict) (meets : (d : List ℕ) → CheckPromise d (check d)) where
   -- one that always says 13
@@ -54,11 +59,18 @@ module _ (get : List ℕ → List ℕ → List ℕ → Lookup) (meets : (d o q :
       let z : _≡_ {A = ℕ} 0 1 = cc in omega arith
 
   -- one that finds field 0 always, wherever it says the child is
-  pub not-field-zero : (start end : List ℕ → List ℕ → List ℕ → ℕ) → ((d o q : List ℕ) → get d o q ≡ lookup.Found 0 (start d o q) (end d o q)) → ⊥
-  not-field-zero start end wrong =
+  pub not-field-zero : (id start end : List ℕ → List ℕ → List ℕ → ℕ) → ((d o q : List ℕ) → get d o q ≡ lookup.Found 0 (id d o q) (start d o q) (end d o q)) → ⊥
+  not-field-zero id start end wrong =
       let is = ap (at 8) worked in
       let says = rw (wrong D P roll) at (meets D P roll) in
       let z : _≡_ {A = ℕ} 0 1 = cc in omega arith
+
+  -- one that gives the field as the id
+  pub not-the-field : ((d o q : List ℕ) (k i a e : ℕ) → get d o q ≡ lookup.Found k i a e → i ≡ k) → ⊥
+  not-the-field wrong =
+      let is = ap (at 18) worked in
+      let found-is : get D alone roll ≡ lookup.Found 0 1 5 6 = get-pinned D alone roll _ _ (meets D alone roll) (cc) in
+      omega (arith, wrong D alone roll 0 1 5 6 found-is)
 
 -- one that leaves the listing's words as lent
 pub not-as-lent : (list : List ℕ → List ℕ → List ℕ → Listing) (after : List ℕ → List ℕ → List ℕ → List ℕ)
@@ -76,6 +88,6 @@ pub not-the-whole : (child : List ℕ → RefT (List ℕ) → List ℕ → RefT 
 not-the-whole child meets wrong =
     let object : RefT (List ℕ) = record { ptr = (0, 0); name = 0; now = P } in
     let is = ap (at 7) worked in
-    let found : by-name.lookup D P flow ≡ accept (0 ∷ 8 ∷ 10 ∷ []) = cc in
+    let found : by-name.lookup D P flow ≡ accept (0 ∷ 0 ∷ 8 ∷ 10 ∷ []) = cc in
     let says = rw (wrong D object flow, found) at (meets D object flow .bytes) in
     let z : _≡_ {A = ℕ} 2 12 = cc in omega arith

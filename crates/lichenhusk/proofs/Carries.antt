@@ -1,13 +1,13 @@
 -- The strip carries the answer whole: words that fit 32 bits are read back as they are, and the code that is returned is the first; with 40
 -- the strip was short. Assumes nothing.
-use Rattle.rules.proofs.Prelude.{_≡_, sym, _∙_, List, [], _∷_, _++_, append-assoc, ℕ, zero, suc, _+_, _*_, _≤_, _<_, decLt, arith, lt-ltb, le-ltb, length}
-use Rattle.rules.proofs.Prelude.{drop, getD, drop-append-add}
+use Rattle.rules.proofs.Prelude.{_≡_, refl, sym, ap, _∙_, List, [], _∷_, _++_, append-assoc, ℕ, zero, suc, _+_, _*_, _≤_, _<_, decLt, arith, lt-ltb, le-ltb, length}
+use Rattle.rules.proofs.Prelude.{drop, getD, drop-append-add, Answer, codeOf, gives}
 use Rattle.width.specs.Width.{bytesOf}
 use Rattle.width.proofs.Laws.{bytes-length, le-bytes}
-use Rattle.words.specs.Five.{bytesOfWords}
+use Rattle.words.specs.Six.{Shape, wordsOf, bytesOfWords, stripBytes}
 use Rattle.lichenhusk.specs.Strip.{returned, stripAfter}
 use Rattle.lichenhusk.specs.Promises.{Left}
-use Rattle.lichenhusk.specs.Host.{word, Tells}
+use Rattle.lichenhusk.specs.Host.{word, wordsIn, Tells}
 
 -- each word fits 32 bits
 abbrev pub Fits : List ℕ → Type 0
@@ -23,38 +23,44 @@ words-back (n ∷ words) rest f (suc k) p =
     rw (append-assoc (bytesOf 4 n) (bytesOfWords words) rest, e, drop-append-add (bytesOf 4 n) (bytesOfWords words ++ rest) (4 * k))
     (words-back words rest (f .1) k (omega arith))
 
-pub reads-back : (strip words : List ℕ) → 20 ≤ length strip → Fits words → (k : ℕ) → k < length words → word (stripAfter strip words) k ≡ getD words k 0
+reads-back : (strip words : List ℕ) → stripBytes ≤ length strip → Fits words → (k : ℕ) → k < length words → word (stripAfter strip words) k ≡ getD words k 0
 unfolding stripAfter
-reads-back strip words h f k p = rw (le-ltb (length strip) 20 h) (words-back words (drop 20 strip) f k p)
+reads-back strip words h f k p = rw (le-ltb (length strip) stripBytes h) (words-back words (drop stripBytes strip) f k p)
+
+module _ (shape : Shape) where
+  -- THE FIRST WORD IS THE CODE
+  pub first-is : (x : Answer) → getD (wordsOf shape x) 0 0 ≡ codeOf x
+  first-is (gives c v p) = refl
+
+  pub carried : (strip : List ℕ) → stripBytes ≤ length strip → (x : Answer) → Fits (wordsOf shape x) → wordsIn (stripAfter strip (wordsOf shape x)) ≡ wordsOf shape x
+  carried strip h (gives c v p) f =
+      let back = reads-back strip (wordsOf shape (gives c v p)) h f in
+      rw (back 0 (omega arith), back 1 (omega arith), back 2 (omega arith), back 3 (omega arith), back 4 (omega arith), back 5 (omega arith))
 
 -- WHAT A HOST READS
 
 -- words that fit, and that say what is so
-abbrev pub Said : (ℕ → ℕ → ℕ → ℕ → ℕ → Type 0) → List ℕ → Type 0
-Said Says words =
-    Fits words × (length words ≡ 5) × (getD words 0 0 ≡ 40 → ⊥) × Says (getD words 0 0) (getD words 1 0) (getD words 2 0) (getD words 3 0) (getD words 4 0)
+abbrev pub Said : (List ℕ → Type 0) → List ℕ → Type 0
+Said Says words = Fits words × (getD words 0 0 ≡ 40 → ⊥) × Says words
 
-module _ (Says : ℕ → ℕ → ℕ → ℕ → ℕ → Type 0) (strip words : List ℕ) (code : ℕ) (after : List ℕ) (left : Left strip words code after) where
+module _ (Says : List ℕ → Type 0) (shape : Shape) (x : Answer) (strip : List ℕ) (code : ℕ) (after : List ℕ) (left : Left strip (wordsOf shape x) code after) where
   -- where the strip is short, and where it is not
-  short : length strip < 20 → Tells Says strip code after
+  short : length strip < stripBytes → Tells Says strip code after
   unfolding returned
   short h =
-      let c : code ≡ 40 = left .returns ∙ rw (lt-ltb (length strip) 20 h) in
+      let c : code ≡ 40 = left .returns ∙ rw (lt-ltb (length strip) stripBytes h) in
       record { no-strip = (λ _. h, λ _. c); says = λ m. absurd (m c) }
 
-  written : 20 ≤ length strip → Said Says words → Tells Says strip code after
+  written : stripBytes ≤ length strip → Said Says (wordsOf shape x) → Tells Says strip code after
   unfolding returned
-  written h (fits, five, m, is) =
-      let c : code ≡ getD words 0 0 = left .returns ∙ rw (le-ltb (length strip) 20 h) in
-      let back : (k : ℕ) → k < 5 → word after k ≡ getD words k 0 = λ k q. rw (left .leaves) (reads-back strip words h fits k (omega arith)) in
-      record {
-        no-strip = (λ w. absurd (m (sym c ∙ w)), λ w. absurd (omega arith));
-        says = λ _. (back 0 (omega arith) ∙ sym c, rw (c, back 1 (omega arith), back 2 (omega arith), back 3 (omega arith), back 4 (omega arith)) is);
-      }
+  written h (fits, m, is) =
+      let c : code ≡ getD (wordsOf shape x) 0 0 = left .returns ∙ rw (le-ltb (length strip) stripBytes h) in
+      let back : wordsIn after ≡ wordsOf shape x = rw (left .leaves) (carried shape strip h x fits) in
+      record { no-strip = (λ w. absurd (m (sym c ∙ w)), λ w. absurd (omega arith)); says = λ _. (ap (λ l. getD l 0 0) back ∙ sym c, rw back is) }
 
-  pub tells : Said Says words → Tells Says strip code after
-  tells is = go (decLt (length strip) 20)
+  pub tells : Said Says (wordsOf shape x) → Tells Says strip code after
+  tells is = go (decLt (length strip) stripBytes)
     where
-      go : Dec (length strip < 20) → Tells Says strip code after
+      go : Dec (length strip < stripBytes) → Tells Says strip code after
       go (yes h) = short h
       go (no h) = written (omega arith) is

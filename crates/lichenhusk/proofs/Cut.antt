@@ -9,23 +9,23 @@ use Rattle.object.proofs.Cut as object-cuts
 use Rattle.lookup.proofs.Cut as lookup-cuts
 use Rattle.listing.specs.Words.{wordsAfter}
 use Rattle.listing.proofs.Cut as listing-cuts
-use Rattle.words.specs.Five.{fieldWords, dictionaryWords, nameWords}
+use Rattle.words.specs.Six.{Shape, wordsOf, lookupShape, layerShape, dictionaryShape, nameShape, stripBytes}
 use Rattle.lichenhusk.specs.Strip.{listAfter}
 use Rattle.lichenhusk.specs.Promises.{Left, DictionaryPromise, NamePromise, LayerPromise, LookupPromise, ListPromise}
 
 -- the words of one of two refusals at place 0
 abbrev pub LeftAs : (empty short : ℕ) → List ℕ → ℕ → List ℕ → Type 0
 LeftAs empty short strip code after =
-    Left strip (empty ∷ 0 ∷ 0 ∷ 0 ∷ 0 ∷ []) code after ⊎ Left strip (short ∷ 0 ∷ 0 ∷ 0 ∷ 0 ∷ []) code after
+    Left strip (empty ∷ 0 ∷ 0 ∷ 0 ∷ 0 ∷ 0 ∷ []) code after ⊎ Left strip (short ∷ 0 ∷ 0 ∷ 0 ∷ 0 ∷ 0 ∷ []) code after
 
-of-words : {a b : ℕ} (words : Answer → List ℕ) (strip : List ℕ) (x : Answer) {code : ℕ} {after : List ℕ} → RefusedAs a b x
-    → Left strip (words x) code after → Left strip (words (refuse a 0)) code after ⊎ Left strip (words (refuse b 0)) code after
-of-words words strip x r l = ⊎-elim (λ e. inl (rw e at l)) (λ e. inr (rw e at l)) r
+of-words : {a b : ℕ} (shape : Shape) (strip : List ℕ) (x : Answer) {code : ℕ} {after : List ℕ} → RefusedAs a b x
+    → Left strip (wordsOf shape x) code after → Left strip (wordsOf shape (refuse a 0)) code after ⊎ Left strip (wordsOf shape (refuse b 0)) code after
+of-words shape strip x r l = ⊎-elim (λ e. inl (rw e at l)) (λ e. inr (rw e at l)) r
 
 -- words that the listing leaves stay, whatever the strip
 as-lent : (d o w strip : List ℕ) → wordsAfter d o w ≡ w → listAfter d o w strip ≡ w
 unfolding listAfter
-as-lent d o w strip e = rw e (either (ltb (length strip) 20))
+as-lent d o w strip e = rw e (either (ltb (length strip) stripBytes))
   where
     either : (b : Bool) → cond b w w ≡ w
     either true = refl
@@ -35,29 +35,29 @@ module _ (strip : List ℕ) (m : ℕ) {code : ℕ} {after : List ℕ} where
   -- THE DICTIONARY CUT
   module _ (d : List ℕ) (n e : ℕ) (accepted : dictionary.verdict d ≡ accept (n ∷ e ∷ [])) (cut : m < e) where
     pub dictionary-cut : DictionaryPromise (take m d) strip code after → LeftAs 11 13 strip code after
-    dictionary-cut = of-words dictionaryWords strip _ (dictionary-cuts.verdict-cut d n e m accepted cut)
+    dictionary-cut = of-words dictionaryShape strip _ (dictionary-cuts.verdict-cut d n e m accepted cut)
 
     pub name-cut : (i : ℕ) → NamePromise (take m d) i strip code after → LeftAs 11 13 strip code after
-    name-cut i = of-words nameWords strip _ (dictionary-cuts.name-cut d n e m accepted cut i)
+    name-cut i = of-words nameShape strip _ (dictionary-cuts.name-cut d n e m accepted cut i)
 
     pub layer-cut : (o : List ℕ) → LayerPromise (take m d) o strip code after → LeftAs 11 13 strip code after
-    layer-cut o = of-words fieldWords strip _ (object-cuts.dictionary-cut d o n e m accepted cut)
+    layer-cut o = of-words layerShape strip _ (object-cuts.dictionary-cut d o n e m accepted cut)
 
     pub lookup-cut : (o q : List ℕ) → LookupPromise (take m d) o q strip code after → LeftAs 11 13 strip code after
-    lookup-cut o q = of-words fieldWords strip _ (lookup-cuts.dictionary-cut d o q m n e accepted cut)
+    lookup-cut o q = of-words lookupShape strip _ (lookup-cuts.dictionary-cut d o q m n e accepted cut)
 
     pub list-cut : (o w left : List ℕ) → ListPromise (take m d) o w strip code after left → LeftAs 11 13 strip code after × (left ≡ w)
     list-cut o w left p =
-        let c = listing-cuts.dictionary-cut d o w m n e accepted cut in (of-words fieldWords strip _ (c .0) (p .strip-left), p .words-left ∙ as-lent _ o w strip (c .1))
+        let c = listing-cuts.dictionary-cut d o w m n e accepted cut in (of-words layerShape strip _ (c .0) (p .strip-left), p .words-left ∙ as-lent _ o w strip (c .1))
 
   -- THE OBJECT CUT
   module _ (d o : List ℕ) (n v e : ℕ) (accepted : object.verdict d o ≡ accept (n ∷ v ∷ e ∷ [])) (cut : m < e) where
     pub layer-object-cut : LayerPromise d (take m o) strip code after → LeftAs 21 23 strip code after
-    layer-object-cut = of-words fieldWords strip _ (object-cuts.object-cut d o n v e m accepted cut)
+    layer-object-cut = of-words layerShape strip _ (object-cuts.object-cut d o n v e m accepted cut)
 
     pub lookup-object-cut : (q : List ℕ) → LookupPromise d (take m o) q strip code after → LeftAs 21 23 strip code after
-    lookup-object-cut q = of-words fieldWords strip _ (lookup-cuts.object-cut d o q m n v e accepted cut)
+    lookup-object-cut q = of-words lookupShape strip _ (lookup-cuts.object-cut d o q m n v e accepted cut)
 
     pub list-object-cut : (w left : List ℕ) → ListPromise d (take m o) w strip code after left → LeftAs 21 23 strip code after × (left ≡ w)
     list-object-cut w left p =
-        let c = listing-cuts.object-cut d o w m n v e accepted cut in (of-words fieldWords strip _ (c .0) (p .strip-left), p .words-left ∙ as-lent d _ w strip (c .1))
+        let c = listing-cuts.object-cut d o w m n v e accepted cut in (of-words layerShape strip _ (c .0) (p .strip-left), p .words-left ∙ as-lent d _ w strip (c .1))

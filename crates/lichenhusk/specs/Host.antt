@@ -1,42 +1,48 @@
--- What a host learns from the five numbers of a strip, and from the code that a call returned. proofs/Tells.antt shows it of every answer that
+-- What a host learns from the six words of a strip, and from the code that a call returned. proofs/Tells.antt shows it of every answer that
 -- meets the call's promise. Assumes nothing.
 use mathlib.Core.Path.{_≡_}
 use mathlib.Core.Logic.{_↔_}
-use mathlib.Core.List.{List, _++_}
+use mathlib.Core.List.{List, [], _∷_, _++_}
 use Prim.Native.Nat.{ℕ, _*_, _≤_, _<_}
 use lib.ListN.{length, drop}
 use Rattle.width.specs.Width.{le}
+use Rattle.part.specs.Part.{part}
 use Rattle.metadata.specs.Dictionary.{emptyBytes}
 use Rattle.metadata.specs.Meaning as dictionary
 use Rattle.object.specs.Meaning.{Layer, Refusal}
 use Rattle.lookup.specs.Meaning.{Found, Absent}
 use Rattle.listing.specs.Words.{rows}
 use Rattle.listing.specs.Meaning.{Listed, NoRoom}
+use Rattle.words.specs.Six.{stripBytes}
 
--- WHAT CODE, NUMBER, START, END AND PLACE SAY, call by call
+-- WHAT CODE, NUMBER, ID, START, END AND PLACE SAY, call by call
 
-pub data DictionarySays (d : List ℕ) : ℕ → ℕ → ℕ → ℕ → ℕ → Type 0 where
-  accepted : {n e : ℕ} → dictionary.Dictionary d n e → DictionarySays d 0 n 0 e 0
-  refused : {c p : ℕ} → 10 ≤ c → c < 20 → dictionary.Refusal d c p → DictionarySays d c 0 0 0 p
+pub data DictionarySays (d : List ℕ) : List ℕ → Type 0 where
+  accepted : {n e : ℕ} → dictionary.Dictionary d n e → DictionarySays d (0 ∷ n ∷ 0 ∷ 0 ∷ e ∷ 0 ∷ [])
+  refused : {c p : ℕ} → 10 ≤ c → c < 20 → dictionary.Refusal d c p → DictionarySays d (c ∷ 0 ∷ 0 ∷ 0 ∷ 0 ∷ p ∷ [])
 
-pub data NameSays (d : List ℕ) (i : ℕ) : ℕ → ℕ → ℕ → ℕ → ℕ → Type 0 where
-  named : {a e : ℕ} → dictionary.Named d i a e → NameSays d i 0 0 a e 0
-  no-entry : dictionary.NoEntry d i → NameSays d i 31 0 0 0 0
-  refused : {c p : ℕ} → 10 ≤ c → c < 20 → dictionary.Refusal d c p → NameSays d i c 0 0 0 p
+pub data NameSays (d : List ℕ) (i : ℕ) : List ℕ → Type 0 where
+  named : {a e : ℕ} → dictionary.Named d i a e → NameSays d i (0 ∷ 0 ∷ 0 ∷ a ∷ e ∷ 0 ∷ [])
+  no-entry : dictionary.NoEntry d i → NameSays d i (31 ∷ 0 ∷ 0 ∷ 0 ∷ 0 ∷ 0 ∷ [])
+  refused : {c p : ℕ} → 10 ≤ c → c < 20 → dictionary.Refusal d c p → NameSays d i (c ∷ 0 ∷ 0 ∷ 0 ∷ 0 ∷ p ∷ [])
 
-pub data LayerSays (d o : List ℕ) : ℕ → ℕ → ℕ → ℕ → ℕ → Type 0 where
-  accepted : {n v e : ℕ} → Layer d o n v e → LayerSays d o 0 n v e 0
-  refused : {c p : ℕ} → 10 ≤ c → c < 28 → Refusal d o c p → LayerSays d o c 0 0 0 p
+pub data LayerSays (d o : List ℕ) : List ℕ → Type 0 where
+  accepted : {n v e : ℕ} → Layer d o n v e → LayerSays d o (0 ∷ n ∷ 0 ∷ v ∷ e ∷ 0 ∷ [])
+  refused : {c p : ℕ} → 10 ≤ c → c < 28 → Refusal d o c p → LayerSays d o (c ∷ 0 ∷ 0 ∷ 0 ∷ 0 ∷ p ∷ [])
 
-pub data LookupSays (d o q : List ℕ) : ℕ → ℕ → ℕ → ℕ → ℕ → Type 0 where
-  found : {k a e : ℕ} → Found d o q k a e → LookupSays d o q 0 k a e 0
-  absent : Absent d o q → LookupSays d o q 1 0 0 0 0
-  refused : {c p : ℕ} → 10 ≤ c → c < 28 → Refusal d o c p → LookupSays d o q c 0 0 0 p
+pub data LookupSays (d o q : List ℕ) : List ℕ → Type 0 where
+  found : {k i a e : ℕ} → Found d o q k i a e → LookupSays d o q (0 ∷ k ∷ i ∷ a ∷ e ∷ 0 ∷ [])
+  absent : Absent d o q → LookupSays d o q (1 ∷ 0 ∷ 0 ∷ 0 ∷ 0 ∷ 0 ∷ [])
+  refused : {c p : ℕ} → 10 ≤ c → c < 28 → Refusal d o c p → LookupSays d o q (c ∷ 0 ∷ 0 ∷ 0 ∷ 0 ∷ p ∷ [])
 
-pub data ListSays (d o words : List ℕ) : ℕ → ℕ → ℕ → ℕ → ℕ → Type 0 where
-  listed : {n v e : ℕ} → Listed d o words n v e → ListSays d o words 0 n v e 0
-  no-room : NoRoom d o words → ListSays d o words 41 0 0 0 0
-  refused : {c p : ℕ} → 10 ≤ c → c < 28 → Refusal d o c p → ListSays d o words c 0 0 0 p
+-- of a name call: the dictionary's bytes from start to end are q
+pub data Spelled (d q : List ℕ) : List ℕ → Type 0 where
+  spelled : {a e : ℕ} → part d a e ≡ q → Spelled d q (0 ∷ 0 ∷ 0 ∷ a ∷ e ∷ 0 ∷ [])
+
+pub data ListSays (d o words : List ℕ) : List ℕ → Type 0 where
+  listed : {n v e : ℕ} → Listed d o words n v e → ListSays d o words (0 ∷ n ∷ 0 ∷ v ∷ e ∷ 0 ∷ [])
+  no-room : NoRoom d o words → ListSays d o words (41 ∷ 0 ∷ 0 ∷ 0 ∷ 0 ∷ 0 ∷ [])
+  refused : {c p : ℕ} → 10 ≤ c → c < 28 → Refusal d o c p → ListSays d o words (c ∷ 0 ∷ 0 ∷ 0 ∷ 0 ∷ p ∷ [])
 
 -- WHAT A CALL TELLS
 
@@ -44,10 +50,13 @@ pub data ListSays (d o words : List ℕ) : ℕ → ℕ → ℕ → ℕ → ℕ �
 abbrev pub word : List ℕ → ℕ → ℕ
 word strip k = le 4 (drop (4 * k) strip)
 
+abbrev pub wordsIn : List ℕ → List ℕ
+wordsIn strip = word strip 0 ∷ word strip 1 ∷ word strip 2 ∷ word strip 3 ∷ word strip 4 ∷ word strip 5 ∷ []
+
 -- 40 was returned exactly where the strip is short; with any other code the strip's words, the code first, say what is so
-pub record Tells (Says : ℕ → ℕ → ℕ → ℕ → ℕ → Type 0) (strip : List ℕ) (code : ℕ) (after : List ℕ) : Type 0 where
-  pub no-strip : (code ≡ 40) ↔ (length strip < 20)
-  pub says : (code ≡ 40 → ⊥) → (word after 0 ≡ code) × Says code (word after 1) (word after 2) (word after 3) (word after 4)
+pub record Tells (Says : List ℕ → Type 0) (strip : List ℕ) (code : ℕ) (after : List ℕ) : Type 0 where
+  pub no-strip : (code ≡ 40) ↔ (length strip < stripBytes)
+  pub says : (code ≡ 40 → ⊥) → (word after 0 ≡ code) × Says (wordsIn after)
 
 -- the words lent to a listing are filled with 0, and as they were with any other code
 pub record Fills (o words : List ℕ) (code : ℕ) (after wordsAfter : List ℕ) : Type 0 where

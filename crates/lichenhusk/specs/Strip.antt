@@ -1,5 +1,5 @@
--- The strip, which carries an answer through C (document 01, "Strip"): its five words go to the first 20 bytes, each a little-endian u32.
--- Bytes after stay. The call returns the code. With 40 nothing is written. Assumes nothing.
+-- The strip, which carries an answer through C (document 01, "Strip", and request c) of document 02): its six words go to the first 24 bytes,
+-- each a little-endian u32. Bytes after stay. The call returns the code. With 40 nothing is written. Assumes nothing.
 use mathlib.Core.Bool.{cond}
 use mathlib.Core.List.{List, _++_}
 use Prim.Native.Nat.{ℕ}
@@ -9,33 +9,33 @@ use Rattle.metadata.specs.Dictionary as dictionary
 use Rattle.object.specs.Object as object
 use Rattle.lookup.specs.ByName as by-name
 use Rattle.listing.specs.Words as listing
-use Rattle.words.specs.Five.{fieldWords, dictionaryWords, nameWords, bytesOfWords}
+use Rattle.words.specs.Six.{wordsOf, lookupShape, layerShape, dictionaryShape, nameShape, bytesOfWords, stripBytes}
 
 -- THE WORDS OF EACH CALL
 
 abbrev pub lookupWords : List ℕ → List ℕ → List ℕ → List ℕ
-lookupWords d o q = fieldWords (by-name.lookup d o q)
+lookupWords d o q = wordsOf lookupShape (by-name.lookup d o q)
 
 abbrev pub layerWords : List ℕ → List ℕ → List ℕ
-layerWords d o = fieldWords (object.verdict d o)
+layerWords d o = wordsOf layerShape (object.verdict d o)
 
 abbrev pub listWords : List ℕ → List ℕ → List ℕ → List ℕ
-listWords d o words = fieldWords (listing.listed d o words)
+listWords d o words = wordsOf layerShape (listing.listed d o words)
 
 abbrev pub verdictWords : List ℕ → List ℕ
-verdictWords d = dictionaryWords (dictionary.verdict d)
+verdictWords d = wordsOf dictionaryShape (dictionary.verdict d)
 
 abbrev pub nameAtWords : List ℕ → ℕ → List ℕ
-nameAtWords d i = nameWords (dictionary.nameAt d i)
+nameAtWords d i = wordsOf nameShape (dictionary.nameAt d i)
 
--- THE STRIP: 40, below 20 bytes, is checked first
+-- THE STRIP: 40, below 24 bytes, is checked first
 
 unfoldable pub returned : List ℕ → List ℕ → ℕ
-returned strip words = cond (ltb (length strip) 20) 40 (getD words 0 0)
+returned strip words = cond (ltb (length strip) stripBytes) 40 (getD words 0 0)
 
 unfoldable pub stripAfter : List ℕ → List ℕ → List ℕ
-stripAfter strip words = cond (ltb (length strip) 20) strip (bytesOfWords words ++ drop 20 strip)
+stripAfter strip words = cond (ltb (length strip) stripBytes) strip (bytesOfWords words ++ drop stripBytes strip)
 
 -- and the listing's words: as lent with 40
 unfoldable pub listAfter : List ℕ → List ℕ → List ℕ → List ℕ → List ℕ
-listAfter d o words strip = cond (ltb (length strip) 20) words (listing.wordsAfter d o words)
+listAfter d o words strip = cond (ltb (length strip) stripBytes) words (listing.wordsAfter d o words)

@@ -47,7 +47,7 @@ rol = 0x72 ∷ 0x6F ∷ 0x6C ∷ []
 abbrev pub roll : List ℕ
 roll = 0x72 ∷ 0x6F ∷ 0x6C ∷ 0x6C ∷ []
 
--- THE TABLE; the last row is request b)'s
+-- THE TABLE, with the ids and the strip of request c); the last two rows are request b)'s and one for request c), where field and id differ
 abbrev pub starred : List (Asked × Told)
 starred =
     (verdict (0x01 ∷ 0x00 ∷ 0x00 ∷ []), answers (accept (0 ∷ 3 ∷ [])))
@@ -57,18 +57,19 @@ starred =
     ∷ (verdict (0x01 ∷ 0x02 ∷ 0x00 ∷ 0x01 ∷ 0x02 ∷ 0xC3 ∷ 0xA9 ∷ []), answers (refuse 17 0))
     ∷ (verdict (0x11 ∷ 0x02 ∷ 0x00 ∷ 0x01 ∷ 0x02 ∷ 0x61 ∷ 0x61 ∷ []), answers (refuse 18 1))
     ∷ (verdict (0x01 ∷ 0x02 ∷ 0x00 ∷ 0x01 ∷ 0x02 ∷ 0x61 ∷ 0x61 ∷ []), answers (accept (2 ∷ 7 ∷ [])))
-    ∷ (lookup D P flow, answers (accept (0 ∷ 8 ∷ 10 ∷ [])))
-    ∷ (lookup D P roll, answers (accept (1 ∷ 7 ∷ 10 ∷ [])))
+    ∷ (lookup D P flow, answers (accept (0 ∷ 0 ∷ 8 ∷ 10 ∷ [])))
+    ∷ (lookup D P roll, answers (accept (1 ∷ 1 ∷ 7 ∷ 10 ∷ [])))
     ∷ (lookup D P rol, answers by-name.absent)
     ∷ (listing D P (replicate 6 0), leaves (0 ∷ 8 ∷ 2 ∷ 1 ∷ 7 ∷ 1 ∷ []))
     ∷ (
-      strip D P roll (replicate 20 0xEE),
-      leaves (0 ∷ 0 ∷ 0 ∷ 0 ∷ 1 ∷ 0 ∷ 0 ∷ 0 ∷ 7 ∷ 0 ∷ 0 ∷ 0 ∷ 0x0A ∷ 0 ∷ 0 ∷ 0 ∷ 0 ∷ 0 ∷ 0 ∷ 0 ∷ []),
+      strip D P roll (replicate 24 0xEE),
+      leaves (0 ∷ 0 ∷ 0 ∷ 0 ∷ 1 ∷ 0 ∷ 0 ∷ 0 ∷ 1 ∷ 0 ∷ 0 ∷ 0 ∷ 7 ∷ 0 ∷ 0 ∷ 0 ∷ 0x0A ∷ 0 ∷ 0 ∷ 0 ∷ 0 ∷ 0 ∷ 0 ∷ 0 ∷ []),
     )
     ∷ (layer D (0x02 ∷ 0x01 ∷ 0x00 ∷ 0x00 ∷ 0x00 ∷ []), answers (accept (1 ∷ 5 ∷ 5 ∷ [])))
-    ∷ (lookup D (0x02 ∷ 0x01 ∷ 0x00 ∷ 0x00 ∷ 0x00 ∷ []) flow, answers (accept (0 ∷ 5 ∷ 5 ∷ [])))
+    ∷ (lookup D (0x02 ∷ 0x01 ∷ 0x00 ∷ 0x00 ∷ 0x00 ∷ []) flow, answers (accept (0 ∷ 0 ∷ 5 ∷ 5 ∷ [])))
     ∷ (layer D (0x02 ∷ 0x01 ∷ 0x02 ∷ 0x00 ∷ 0x00 ∷ []), answers (refuse 25 0))
     ∷ (layer D (0x02 ∷ 0x02 ∷ 0x01 ∷ 0x00 ∷ 0x00 ∷ 0x00 ∷ 0x00 ∷ []), answers (refuse 26 1))
     ∷ (layer D (0x02 ∷ 0x01 ∷ 0x00 ∷ 0x02 ∷ 0x01 ∷ 0x00 ∷ []), answers (refuse 27 0))
     ∷ (verdict (0x01 ∷ 0x01 ∷ 0x00 ∷ 0x01 ∷ 0xC3 ∷ []), answers (refuse 19 0))
+    ∷ (lookup D (0x02 ∷ 0x01 ∷ 0x01 ∷ 0x00 ∷ 0x01 ∷ 0x0C ∷ []) roll, answers (accept (0 ∷ 1 ∷ 5 ∷ 6 ∷ [])))
     ∷ []

@@ -1,10 +1,10 @@
-// What a host calls through C: each answer as a strip of five little-endian u32 (include/lichenhusk.h).
+// What a host calls through C: each answer as a strip of six little-endian u32 (include/lichenhusk.h).
 ghost use Rattle.lichenhusk.specs.Promises.{LookupPromise, DictionaryPromise, NamePromise, LayerPromise, ListPromise, EmptyPromise};
 
 // The bytes of a strip, below which the answer is 40.
-const STRIP: usize = 20;
+pub const STRIP: usize = 24;
 
-// Lookup by name: field, start, end.
+// Lookup by name: field, id, start, end.
 #[no_mangle]
 pub extern "C" fn lichenhusk_lookup(
     dict: &[u8],
@@ -21,7 +21,7 @@ pub extern "C" fn lichenhusk_lookup(
     words::write(strip, words)
 }
 
-// Dictionary verdict: entry count, 0, trimmed end.
+// Dictionary verdict: entry count, 0, 0, trimmed end.
 #[no_mangle]
 pub extern "C" fn lichenhusk_dictionary(dict: &[u8], strip: &mut [u8]) -> u32
     ensures { λ r. ⌜ DictionaryPromise (now (dict .entry)) (now (strip .entry)) r (now (strip .exit)) ⌝ }
@@ -33,7 +33,7 @@ pub extern "C" fn lichenhusk_dictionary(dict: &[u8], strip: &mut [u8]) -> u32
     words::write(strip, words)
 }
 
-// Name by entry number: 0, start, end.
+// Name by entry number: 0, 0, start, end.
 #[no_mangle]
 pub extern "C" fn lichenhusk_name(dict: &[u8], entry: usize, strip: &mut [u8]) -> u32
     ensures { λ r. ⌜ NamePromise (now (dict .entry)) entry (now (strip .entry)) r (now (strip .exit)) ⌝ }
@@ -45,7 +45,7 @@ pub extern "C" fn lichenhusk_name(dict: &[u8], entry: usize, strip: &mut [u8]) -
     words::write(strip, words)
 }
 
-// Layer verdict: field count, region start, trimmed end.
+// Layer verdict: field count, 0, region start, trimmed end.
 #[no_mangle]
 pub extern "C" fn lichenhusk_layer(dict: &[u8], object: &[u8], strip: &mut [u8]) -> u32
     ensures { λ r. ⌜ LayerPromise (now (dict .entry)) (now (object .entry)) (now (strip .entry)) r (now (strip .exit)) ⌝ }
@@ -70,8 +70,8 @@ pub extern "C" fn lichenhusk_list(
     if strip.len() < STRIP {
         return 40;
     }
-    let five = words::of_listing(listing::list(dict, object, words));
-    words::write(strip, five)
+    let six = words::of_listing(listing::list(dict, object, words));
+    words::write(strip, six)
 }
 
 // The empty dictionary: 0, or 42 below three bytes of room.

@@ -10,7 +10,7 @@ use Rattle.metadata.specs.Limits.{limit}
 use Rattle.object.specs.Object.{count, start, fieldName, checks}
 use Rattle.object.proofs.Laws.{passes, entry-of}
 use Rattle.object.proofs.Means.{good}
-use Rattle.object.proofs.Appended.{lifted, Settled, unlifted, counted, count-same, start-same, offset-same, end-same, field-same, checks-kept}
+use Rattle.object.proofs.Appended.{lifted, Settled, unlifted, counted, count-same, start-same, id-same, offset-same, end-same, field-same, checks-kept}
 use Rattle.lookup.specs.ByName.{found, lookup, startOf, endOf}
 use Rattle.lookup.proofs.Found.{child-inside}
 
@@ -26,7 +26,7 @@ module _ (d t o u q : List ℕ) where
     where
       go : start o ≤ length o → (s : Sought) → ((k : ℕ) → s ≡ here k → (k < count o) × (fieldName d o k ≡ q)) → found (o ++ u) s ≡ found o s
       go placed nowhere is = refl
-      go placed (here k) is = let p = is k refl in rw (start-same o u (counted o u placed), offset-same o u placed k (omega arith), end-same o u placed)
+      go placed (here k) is = let p = is k refl in rw (id-same o u placed k (p .0), start-same o u (counted o u placed), offset-same o u placed k (omega arith), end-same o u placed)
 
   module _ (dictionary-limit : length (d ++ t) ≤ limit) (object-limit : length (o ++ u) ≤ limit) (settled : Settled (codeOf (lookup d o q))) where
     pub lookup-appended : lookup (d ++ t) (o ++ u) q ≡ lookup d o q

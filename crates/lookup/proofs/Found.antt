@@ -5,6 +5,9 @@ use Rattle.rules.proofs.Prelude.{by-meaning}
 use Rattle.names.specs.Search.{Sought, seek}
 use Rattle.names.specs.Search.Sought.{nowhere, here}
 use Rattle.names.proofs.Search as names
+use Rattle.metadata.specs.Dictionary as dictionary
+use Rattle.metadata.specs.Meaning.{Named}
+use Rattle.metadata.proofs.Names.{named, name-there}
 use Rattle.object.specs.Object.{count, start, end, fieldName}
 use Rattle.object.specs.Meaning.{Layer, Refusal}
 use Rattle.object.proofs.Laws.{names-rise, end-is}
@@ -13,44 +16,54 @@ use Rattle.object.proofs.Accepts.{all-pass}
 use Rattle.object.proofs.Refuses.{is-due}
 use Rattle.object.proofs.Fits.{checks-code}
 use Rattle.lookup.specs.ByName.{absent, found as foundFor, lookup, startOf, endOf}
-use Rattle.lookup.specs.Meaning.{Found, Absent}
+use Rattle.lookup.specs.Meaning.{Found, Absent, Spells}
+use Rattle.lookup.specs.Meaning.Spells.{spells}
 
 module _ (d o q : List ℕ) where
   abbrev Good : Type 0
   Good = Layer d o (count o) (start o) (end o)
 
   -- WHAT IS SO OF EACH CASE IS SO OF THE ANSWER
-  pub by-answer : (P : Answer → Type 0) → ((k a e : ℕ) → Found d o q k a e → P (accept (k ∷ a ∷ e ∷ []))) → (Absent d o q → P absent)
+  pub by-answer : (P : Answer → Type 0) → ((k i a e : ℕ) → Found d o q k i a e → P (accept (k ∷ i ∷ a ∷ e ∷ []))) → (Absent d o q → P absent)
       → ((c p : ℕ) → Refusal d o c p → P (refuse c p)) → P (lookup d o q)
-  unfolding lookup
+  unfolding lookup fieldName
   by-answer P is-found is-absent is-refused = by-meaning P _ (checks-mean d o) (λ g. go g (seek (fieldName d o) q (count o)) refl) is-refused
     where
       go : Good → (s : Sought) → seek (fieldName d o) q (count o) ≡ s → P (foundFor o s)
       go g nowhere e = is-absent (record { accepted = g; no-field = names.seek-nowhere (fieldName d o) q (count o) e })
       go g (here k) e =
           let at = names.seek-at (fieldName d o) q (count o) k e in
-          is-found k _ _ (record { accepted = g; is-field = at .0; is-name = at .1; starts = refl; ends = refl })
+          is-found k _ _ _ (record {
+            accepted = g;
+            is-field = at .0;
+            is-name = at .1;
+            is-id = refl;
+            is-entry = g .named .names k (at .0) .entry;
+            id-names = at .1;
+            starts = refl;
+            ends = refl;
+          })
 
   -- FOUND
-  is-there : (k a e : ℕ) → lookup d o q ≡ accept (k ∷ a ∷ e ∷ []) → Found d o q k a e
-  is-there k a e =
-      by-answer (λ x. x ≡ accept (k ∷ a ∷ e ∷ []) → Found d o q k a e)
-      (λ j b f is w. let k-is : j ≡ k = cc in let a-is : b ≡ a = cc in let e-is : f ≡ e = cc in rw (k-is, a-is, e-is) at is)
+  is-there : (k i a e : ℕ) → lookup d o q ≡ accept (k ∷ i ∷ a ∷ e ∷ []) → Found d o q k i a e
+  is-there k i a e =
+      by-answer (λ x. x ≡ accept (k ∷ i ∷ a ∷ e ∷ []) → Found d o q k i a e)
+      (λ j h b f is w. let k-is : j ≡ k = cc in let i-is : h ≡ i = cc in let a-is : b ≡ a = cc in let e-is : f ≡ e = cc in rw (k-is, i-is, a-is, e-is) at is)
       (λ _ w. let z : _≡_ {A = ℕ} 0 1 = cc in absurd (omega arith))
       (λ c p _ w. let z : _≡_ {A = ℕ} 0 1 = cc in absurd (omega arith))
 
-  is-found : (k a e : ℕ) → Found d o q k a e → lookup d o q ≡ accept (k ∷ a ∷ e ∷ [])
+  is-found : (k i a e : ℕ) → Found d o q k i a e → lookup d o q ≡ accept (k ∷ i ∷ a ∷ e ∷ [])
   unfolding lookup
-  is-found k a e f =
+  is-found k i a e f =
       let c = all-pass d o _ _ _ (f .accepted) in
       let only : (j : ℕ) → k < j → j < count o → fieldName d o j ≡ q → ⊥ = λ j p r h.
       let same = names.once (fieldName d o) q (count o) (names-rise d o c) k j (f .is-field) r (f .is-name) h in omega arith in
-      answered _ c ∙ rw (names.seek-last (fieldName d o) q (count o) k (f .is-field) (f .is-name) only, f .starts, f .ends)
+      answered _ c ∙ rw (names.seek-last (fieldName d o) q (count o) k (f .is-field) (f .is-name) only, f .is-id, f .starts, f .ends)
 
   -- ABSENT
   none-there : lookup d o q ≡ absent → Absent d o q
   none-there =
-      by-answer (λ x. x ≡ absent → Absent d o q) (λ k a e _ w. let z : _≡_ {A = ℕ} 0 1 = cc in absurd (omega arith)) (λ none w. none)
+      by-answer (λ x. x ≡ absent → Absent d o q) (λ k i a e _ w. let z : _≡_ {A = ℕ} 0 1 = cc in absurd (omega arith)) (λ none w. none)
       (λ c p r w. let z : c ≡ 1 = cc in absurd (omega (arith, checks-code d o (is-due d o r))))
 
   is-absent : Absent d o q → lookup d o q ≡ absent
@@ -60,13 +73,13 @@ module _ (d o q : List ℕ) where
   -- REFUSED
   turned-down : (c p : ℕ) → (c ≡ 1 → ⊥) → lookup d o q ≡ refuse c p → Refusal d o c p
   turned-down c p n =
-      by-answer (λ x. x ≡ refuse c p → Refusal d o c p) (λ k a e _ w. let z : _≡_ {A = ℕ} 0 1 = cc in absurd (omega arith))
+      by-answer (λ x. x ≡ refuse c p → Refusal d o c p) (λ k i a e _ w. let z : _≡_ {A = ℕ} 0 1 = cc in absurd (omega arith))
       (λ _ w. let z : c ≡ 1 = cc in absurd (n z))
       (λ b r due w. let c-is : b ≡ c = cc in let p-is : r ≡ p = cc in rw (c-is, p-is) at due)
 
   -- THE THEOREMS
-  pub found : (k a e : ℕ) → (lookup d o q ≡ accept (k ∷ a ∷ e ∷ [])) ↔ Found d o q k a e
-  found k a e = (is-there k a e, is-found k a e)
+  pub found : (k i a e : ℕ) → (lookup d o q ≡ accept (k ∷ i ∷ a ∷ e ∷ [])) ↔ Found d o q k i a e
+  found k i a e = (is-there k i a e, is-found k i a e)
 
   pub absent-is : (lookup d o q ≡ absent) ↔ Absent d o q
   absent-is = (none-there, is-absent)
@@ -80,8 +93,14 @@ module _ (d o q : List ℕ) where
       names.once (fieldName d o) q (count o) (names-rise d o (all-pass d o n v e l)) i j (omega arith) (omega arith) a b
 
   -- where the child lies there are bytes; on absence or refusal it is nothing, at the start
-  pub found-inside : (k a e : ℕ) → Found d o q k a e → (a ≤ e) × (e ≤ length o)
-  found-inside k a e f = (omega (arith, end-is o, f .accepted .offsets k (f .is-field)), omega arith)
+  pub found-inside : (k i a e : ℕ) → Found d o q k i a e → (a ≤ e) × (e ≤ length o)
+  found-inside k i a e f = (omega (arith, end-is o, f .accepted .offsets k (f .is-field)), omega arith)
 
   pub child-inside : (startOf (lookup d o q) ≤ endOf (lookup d o q)) × (endOf (lookup d o q) ≤ length o)
   child-inside = by-answer (λ x. (startOf x ≤ endOf x) × (endOf x ≤ length o)) found-inside (λ _. omega arith) (λ c p _. omega arith)
+
+  -- what a host asked a second time for: the name by number at the found id is the query
+  pub asked-again : (k i a e : ℕ) → Found d o q k i a e → Spells d q (dictionary.nameAt d i)
+  asked-again k i a e f =
+      let n : Named d i _ _ = record { accepted = f .accepted .named .headed .placed .counted .typed .sized .over; is-entry = f .is-entry; starts = refl; ends = refl } in
+      rw (named d i _ _ .1 n) (spells (name-there d i _ _ n .0 ∙ f .id-names))

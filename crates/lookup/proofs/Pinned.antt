@@ -10,8 +10,9 @@ use Rattle.lookup.specs.Answers.{lookupNumbers}
 use Rattle.lookup.specs.Promises.{GetPromise, ChildPromise}
 
 lookupBack : Answer → Lookup
-lookupBack (gives c (k ∷ a ∷ e ∷ x) p) = lookup.Found k a e
-lookupBack (gives c (k ∷ a ∷ []) p) = lookup.Absent
+lookupBack (gives c (k ∷ i ∷ a ∷ e ∷ x) p) = lookup.Found k i a e
+lookupBack (gives c (k ∷ i ∷ a ∷ []) p) = lookup.Absent
+lookupBack (gives c (k ∷ i ∷ []) p) = lookup.Absent
 lookupBack (gives c (k ∷ []) p) = lookup.Absent
 lookupBack (gives c [] p) = refusalBy lookup.Refused lookup.Absent c p
 
@@ -19,7 +20,7 @@ lookup-back : (v : Lookup) → lookupBack (lookupNumbers v) ≡ v
 unfolding lookupBack refusalBy dictionaryBy
 lookup-back (lookup.Refused r) = refusal-back lookup.Refused lookup.Absent r
 lookup-back lookup.Absent = refl
-lookup-back (lookup.Found k a e) = refl
+lookup-back (lookup.Found k i a e) = refl
 
 pub get-pinned : (d o q : List ℕ) (r r′ : Lookup) → GetPromise d o q r → GetPromise d o q r′ → r ≡ r′
 get-pinned d o q r r′ a b = by-back lookupNumbers lookupBack lookup-back r r′ (a ∙ sym b)

@@ -2,6 +2,9 @@
 -- the call's promise is meant. Assumes nothing.
 use Rattle.rules.proofs.Prelude.{_≡_, true, false, _↔_, List, ℕ, _otherwise_, swap, false-true}
 use denote.Ref.{RefT}
+use Rattle.metadata.specs.declared.Entry.{Entry}
+use Rattle.metadata.specs.Answers.{entryNumbers}
+use Rattle.metadata.specs.Promises.{GetPromise as NamePromise}
 use Rattle.metadata.proofs.Pinned.{refusalBy as dictionaryBy}
 use Rattle.object.specs.declared.Refusal.{Refusal}
 use Rattle.object.specs.Answers.{refusalNumber, refusalPlace}
@@ -10,10 +13,10 @@ use Rattle.object.proofs.Refuses.{is-due}
 use Rattle.object.proofs.Pinned.{refusalBy, refusal-back}
 use Rattle.lookup.specs.declared.Lookup.the-variants as lookup
 use Rattle.lookup.specs.ByName.{lookup as lookupOf}
-use Rattle.lookup.specs.Meaning.{Found, Absent}
+use Rattle.lookup.specs.Meaning.{Found, Absent, Spells}
 use Rattle.lookup.specs.Answers.{PartOf}
 use Rattle.lookup.specs.Promises.{GetPromise, ChildPromise}
-use Rattle.lookup.proofs.Found.{found, absent-is, refused-is}
+use Rattle.lookup.proofs.Found.{found, absent-is, refused-is, asked-again}
 
 -- no case of a refusal has the number of "absent"
 not-absent : (r : Refusal) → refusalNumber r ≡ 1 → ⊥
@@ -22,8 +25,12 @@ not-absent r e = false-true (rw e at (refusal-back (λ _. true) false r))
 
 -- `get`
 module _ (d o q : List ℕ) where
-  pub get-found : (k a e : ℕ) → GetPromise d o q (lookup.Found k a e) ↔ Found d o q k a e
-  get-found k a e = swap (found d o q k a e)
+  pub get-found : (k i a e : ℕ) → GetPromise d o q (lookup.Found k i a e) ↔ Found d o q k i a e
+  get-found k i a e = swap (found d o q k i a e)
+
+  -- and so `metadata::get` at the id that was found gives the query
+  pub get-again : (k i a e : ℕ) → GetPromise d o q (lookup.Found k i a e) → (x : Entry) → NamePromise d i x → Spells d q (entryNumbers x)
+  get-again k i a e promised x named = rw named (asked-again d o q k i a e (get-found k i a e .0 promised))
 
   pub get-absent : GetPromise d o q lookup.Absent ↔ Absent d o q
   get-absent = swap (absent-is d o q)
@@ -33,8 +40,8 @@ module _ (d o q : List ℕ) where
 
 -- `child`: the part where it was found; on absence or refusal the empty part at the object's start
 module _ (d : List ℕ) (object : RefT (List ℕ)) (q : List ℕ) (r : RefT (List ℕ)) (promised : ChildPromise d object q r) where
-  pub child-found : (k a e : ℕ) → Found d (object .now) q k a e → PartOf object r a e
-  child-found k a e f = rw (found d (object .now) q k a e .1 f) at promised
+  pub child-found : (k i a e : ℕ) → Found d (object .now) q k i a e → PartOf object r a e
+  child-found k i a e f = rw (found d (object .now) q k i a e .1 f) at promised
 
   pub child-absent : Absent d (object .now) q → PartOf object r 0 0
   child-absent f = rw (absent-is d (object .now) q .1 f) at promised

@@ -13,7 +13,7 @@ use Rattle.lookup.specs.declared.Lookup.the-variants as lookup
 abbrev pub lookupNumbers : Lookup → Answer
 lookupNumbers (lookup.Refused r) = refused r
 lookupNumbers lookup.Absent = absent
-lookupNumbers (lookup.Found k a e) = accept (k ∷ a ∷ e ∷ [])
+lookupNumbers (lookup.Found k i a e) = accept (k ∷ i ∷ a ∷ e ∷ [])
 
 -- A PART THAT IS HANDED BACK: its bytes, and the place where it starts, so that the empty part at the object's start and an empty child are
 -- told apart

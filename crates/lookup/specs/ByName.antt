@@ -7,22 +7,22 @@ use Rattle.names.specs.Search.{Sought, seek}
 use Rattle.names.specs.Search.Sought.{nowhere, here}
 use Rattle.rules.specs.Rules.{Answer, accept, _otherwise_}
 use Rattle.rules.specs.Rules.Answer.{gives}
-use Rattle.object.specs.Object.{count, offset, start, end, fieldName, checks}
+use Rattle.object.specs.Object.{count, id, offset, start, end, fieldName, checks}
 
--- Found gives field, start and end, counted from the object's first byte; absent is 1
+-- Found gives field, the field's id, start and end, these two counted from the object's first byte; absent is 1
 abbrev pub absent : Answer
 absent = gives 1 [] 0
 
 abbrev pub found : List ℕ → Sought → Answer
 found o nowhere = absent
-found o (here k) = accept (k ∷ (start o + offset o k) ∷ end o ∷ [])
+found o (here k) = accept (k ∷ id o k ∷ (start o + offset o k) ∷ end o ∷ [])
 
 unfoldable pub lookup : List ℕ → List ℕ → List ℕ → Answer
 lookup d o q = checks d o otherwise found o (seek (fieldName d o) q (count o))
 
 -- Child view: where the found child starts and ends; on absence or refusal the empty part at the object's start
 abbrev pub startOf : Answer → ℕ
-startOf (gives code values place) = getD values 1 0
+startOf (gives code values place) = getD values 2 0
 
 abbrev pub endOf : Answer → ℕ
-endOf (gives code values place) = getD values 2 0
+endOf (gives code values place) = getD values 3 0

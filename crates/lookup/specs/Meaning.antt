@@ -1,15 +1,22 @@
 -- What the lookup's answers say, in document 01's words. proofs/Found.antt shows that the lookup of ByName.antt says the same. Assumes nothing.
 use mathlib.Core.Path.{_≡_}
-use mathlib.Core.List.{List}
+use mathlib.Core.List.{List, [], _∷_}
 use Prim.Native.Nat.{ℕ, _+_, _<_}
-use Rattle.object.specs.Object.{count, offset, start, end, fieldName}
+use Rattle.rules.specs.Rules.{Answer, accept}
+use Rattle.part.specs.Part.{part}
+use Rattle.metadata.specs.Dictionary as dictionary
+use Rattle.object.specs.Object.{count, id, offset, start, end, fieldName}
 use Rattle.object.specs.Meaning.{Layer}
 
--- found: the layer is accepted, k is one of its fields, field k's dictionary bytes equal the query; the child runs from a to e
-pub record Found (d o q : List ℕ) (k a e : ℕ) : Type 0 where
+-- found: the layer is accepted, k is one of its fields, field k's dictionary bytes equal the query; i is the field's id, and so the dictionary's
+-- bytes at i are the query; the child runs from a to e
+pub record Found (d o q : List ℕ) (k i a e : ℕ) : Type 0 where
   pub accepted : Layer d o (count o) (start o) (end o)
   pub is-field : k < count o
   pub is-name : fieldName d o k ≡ q
+  pub is-id : i ≡ id o k
+  pub is-entry : i < dictionary.count d
+  pub id-names : dictionary.name d i ≡ q
   pub starts : a ≡ start o + offset o k
   pub ends : e ≡ end o
 
@@ -17,3 +24,7 @@ pub record Found (d o q : List ℕ) (k a e : ℕ) : Type 0 where
 pub record Absent (d o q : List ℕ) : Type 0 where
   pub accepted : Layer d o (count o) (start o) (end o)
   pub no-field : (k : ℕ) → k < count o → fieldName d o k ≡ q → ⊥
+
+-- an answer to `name by number` that gives q: the dictionary's bytes where it says are q
+pub data Spells (d q : List ℕ) : Answer → Type 0 where
+  spells : {s t : ℕ} → part d s t ≡ q → Spells d q (accept (s ∷ t ∷ []))

@@ -14,6 +14,7 @@ pub enum Lookup {
     Absent,
     Found {
         field: usize,
+        id: usize,
         start: usize,
         end: usize,
     },
@@ -97,9 +98,11 @@ fn get_over(dict: &[u8], h: metadata::Header, object: &[u8], name: &[u8]) -> Loo
             match found {
                 Search::Nowhere => Lookup::Absent,
                 Search::At(k) => {
+                    let id = object::id_at(object, l, k);
                     let place = field_place(object, l, k);
                     Lookup::Found {
                         field: k,
+                        id,
                         start: place.start,
                         end: place.end,
                     }
@@ -130,6 +133,7 @@ fn child_place(dict: &[u8], object: &[u8], name: &[u8]) -> Place
         Lookup::Absent => Place { start: 0, end: 0 },
         Lookup::Found {
             field: _,
+            id: _,
             start,
             end,
         } => Place { start, end },

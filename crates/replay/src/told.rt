@@ -1,6 +1,6 @@
-// What the Rust says on a line, held against our five numbers:
+// What the Rust says on a line, held against our six numbers:
 //
-//     accepts COUNT END     child COUNT END     at START END     found FIELD START END     absent     refuses NUMBER     refuses -
+//     accepts COUNT END     child COUNT END     at START END     found FIELD ID START END     absent     refuses NUMBER     refuses -
 use ask::Answer;
 use cases::expected::ends;
 use cases::expected::see;
@@ -19,27 +19,35 @@ fn two(text: &[u8], from: usize, first: usize, second: usize) -> bool {
     ends(text, b.next)
 }
 
-// Whether the text has just these three.
-fn three(text: &[u8], first: usize, second: usize, third: usize) -> bool {
-    let a = see(text, 0, first);
-    if !a.same {
+// Whether the text has field, id, start and end, and no more.
+fn found(text: &[u8], a: Answer) -> bool {
+    let field = see(text, 0, a.number);
+    if !field.same {
         return false;
     }
-    two(text, a.next, second, third)
+    let id = see(text, field.next, a.id);
+    if !id.same {
+        return false;
+    }
+    two(text, id.next, a.start, a.end)
 }
 
-fn is_zero(a: usize, b: usize, c: usize) -> bool {
-    if a != 0 {
+// Whether the four words between code and place are 0.
+fn gives_nothing(a: Answer) -> bool {
+    if a.number != 0 {
         return false;
     }
-    if b != 0 {
+    if a.id != 0 {
         return false;
     }
-    c == 0
+    if a.start != 0 {
+        return false;
+    }
+    a.end == 0
 }
 
 fn refused(text: &[u8], a: Answer) -> bool {
-    if !is_zero(a.number, a.start, a.end) {
+    if !gives_nothing(a) {
         return false;
     }
     let w = word(text, 0);
@@ -56,6 +64,12 @@ fn accepted(verb: &[u8], rest: &[u8], a: Answer) -> bool {
     if a.place != 0 {
         return false;
     }
+    if check::same(verb, b"found") {
+        return found(rest, a);
+    }
+    if a.id != 0 {
+        return false;
+    }
     if check::same(verb, b"accepts") {
         return two(rest, 0, a.number, a.end);
     }
@@ -68,9 +82,6 @@ fn accepted(verb: &[u8], rest: &[u8], a: Answer) -> bool {
         }
         return two(rest, 0, a.start, a.end);
     }
-    if check::same(verb, b"found") {
-        return three(rest, a.number, a.start, a.end);
-    }
     false
 }
 
@@ -81,7 +92,7 @@ fn absent(verb: &[u8], a: Answer) -> bool {
     if a.place != 0 {
         return false;
     }
-    is_zero(a.number, a.start, a.end)
+    gives_nothing(a)
 }
 
 pub fn agrees(words: &[u8], a: Answer) -> bool {

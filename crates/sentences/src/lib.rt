@@ -183,7 +183,8 @@ pub fn find(dict: &[u8], object: &[u8], name: &[u8]) {
         return;
     }
     say(b"found: field ", a.number);
-    say(b", its value from byte ", a.start);
+    say(b", entry ", a.id);
+    say(b" of the dictionary, its value from byte ", a.start);
     say(b" to byte ", a.end);
     tell(b":");
     start_of(lookup::child(dict, object, name));

@@ -1,2 +1,2 @@
-pub mod Five
+pub mod Six
 pub mod Steps

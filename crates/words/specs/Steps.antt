@@ -1,15 +1,15 @@
--- The code's five numbers as the list of words, and what their writer promises. Assumes nothing.
+-- The code's six numbers as the list of words, and what their writer promises. Assumes nothing.
 use mathlib.Core.Path.{_≡_}
 use mathlib.Core.List.{List, [], _∷_, _++_}
 use Prim.Native.Nat.{ℕ}
 use lib.ListN.{drop}
 use Rattle.words.specs.declared.Words.{Words}
-use Rattle.words.specs.Five.{bytesOfWords}
+use Rattle.words.specs.Six.{bytesOfWords, stripBytes}
 
 abbrev pub listOf : Words → List ℕ
-listOf w = w .code ∷ w .number ∷ w .start ∷ w .end ∷ w .place ∷ []
+listOf w = w .code ∷ w .number ∷ w .id ∷ w .start ∷ w .end ∷ w .place ∷ []
 
--- the code is returned; the words stand in the first 20 bytes, and the bytes after stay
+-- the code is returned; the words stand in the strip's first bytes, and the bytes after stay
 pub record Wrote (w : Words) (strip : List ℕ) (code : ℕ) (after : List ℕ) : Type 0 where
   pub returns : code ≡ w .code
-  pub leaves : after ≡ bytesOfWords (listOf w) ++ drop 20 strip
+  pub leaves : after ≡ bytesOfWords (listOf w) ++ drop stripBytes strip

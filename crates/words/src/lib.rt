@@ -1,4 +1,4 @@
-// An answer as the five words of a strip, and their one writer (include/lichenhusk.h has what each word is for each call).
+// An answer as the six words of a strip, and their one writer (include/lichenhusk.h has what each word is for each call).
 ghost use mathlib.Core.Path.{_≡_};
 ghost use mathlib.Core.List.{[], _∷_};
 ghost use Prim.Native.Nat.{_≤_};
@@ -8,36 +8,39 @@ ghost use Rattle.metadata.specs.Answers.{refused as dictionaryRefused, verdictN
 ghost use Rattle.object.specs.Answers.{refused as objectRefused, verdictNumbers as layerNumbers};
 ghost use Rattle.lookup.specs.Answers.{lookupNumbers};
 ghost use Rattle.listing.specs.Answers.{listingNumbers};
-ghost use Rattle.words.specs.Five.{fieldWords, dictionaryWords, nameWords};
+ghost use Rattle.words.specs.Six.{wordsOf, lookupShape, layerShape, dictionaryShape, nameShape, stripBytes};
 ghost use Rattle.words.specs.Steps.{listOf, Wrote};
 
-// The five numbers of a strip.
+// The six numbers of a strip.
 pub struct Words {
     pub code: u32,
     pub number: usize,
+    pub id: usize,
     pub start: usize,
     pub end: usize,
     pub place: usize,
 }
 
 fn refusal(code: u32, place: usize) -> Words
-    ensures { λ r. ⌜ listOf r ≡ fieldWords (refuse code place) ⌝ }
+    ensures { λ r. ⌜ listOf r ≡ wordsOf layerShape (refuse code place) ⌝ }
 {
     Words {
         code,
         number: 0,
+        id: 0,
         start: 0,
         end: 0,
         place,
     }
 }
 
-fn answer(number: usize, start: usize, end: usize) -> Words
-    ensures { λ r. ⌜ listOf r ≡ 0 ∷ number ∷ start ∷ end ∷ 0 ∷ [] ⌝ }
+fn answer(number: usize, id: usize, start: usize, end: usize) -> Words
+    ensures { λ r. ⌜ listOf r ≡ 0 ∷ number ∷ id ∷ start ∷ end ∷ 0 ∷ [] ⌝ }
 {
     Words {
         code: 0,
         number,
+        id,
         start,
         end,
         place: 0,
@@ -46,7 +49,7 @@ fn answer(number: usize, start: usize, end: usize) -> Words
 
 // Refusals 10 to 19.
 fn of_dictionary_refusal(r: metadata::Refusal) -> Words
-    ensures { λ w. ⌜ listOf w ≡ fieldWords (dictionaryRefused r) ⌝ }
+    ensures { λ w. ⌜ listOf w ≡ wordsOf layerShape (dictionaryRefused r) ⌝ }
 {
     match r {
         metadata::Refusal::TooLong => refusal(10, 0),
@@ -64,7 +67,7 @@ fn of_dictionary_refusal(r: metadata::Refusal) -> Words
 
 // Refusals 20 to 27, and the dictionary's.
 fn of_object_refusal(r: object::Refusal) -> Words
-    ensures { λ w. ⌜ listOf w ≡ fieldWords (objectRefused r) ⌝ }
+    ensures { λ w. ⌜ listOf w ≡ wordsOf layerShape (objectRefused r) ⌝ }
 {
     match r {
         object::Refusal::Dictionary(d) => of_dictionary_refusal(d),
@@ -80,62 +83,68 @@ fn of_object_refusal(r: object::Refusal) -> Words
 }
 
 pub fn of_verdict(v: metadata::Verdict) -> Words
-    ensures { λ w. ⌜ listOf w ≡ dictionaryWords (verdictNumbers v) ⌝ }
+    ensures { λ w. ⌜ listOf w ≡ wordsOf dictionaryShape (verdictNumbers v) ⌝ }
 {
     match v {
         metadata::Verdict::Refused(r) => of_dictionary_refusal(r),
-        metadata::Verdict::Accepted { count, end } => answer(count, 0, end),
+        metadata::Verdict::Accepted { count, end } => answer(count, 0, 0, end),
     }
 }
 
 pub fn of_entry(e: metadata::Entry) -> Words
-    ensures { λ w. ⌜ listOf w ≡ nameWords (entryNumbers e) ⌝ }
+    ensures { λ w. ⌜ listOf w ≡ wordsOf nameShape (entryNumbers e) ⌝ }
 {
     match e {
         metadata::Entry::Refused(r) => of_dictionary_refusal(r),
         metadata::Entry::NoSuchEntry => refusal(31, 0),
-        metadata::Entry::Named(s) => answer(0, s.start, s.end),
+        metadata::Entry::Named(s) => answer(0, 0, s.start, s.end),
     }
 }
 
 pub fn of_layer(v: object::Verdict) -> Words
-    ensures { λ w. ⌜ listOf w ≡ fieldWords (layerNumbers v) ⌝ }
+    ensures { λ w. ⌜ listOf w ≡ wordsOf layerShape (layerNumbers v) ⌝ }
 {
     match v {
         object::Verdict::Refused(r) => of_object_refusal(r),
-        object::Verdict::Accepted { count, start, end } => answer(count, start, end),
+        object::Verdict::Accepted { count, start, end } => answer(count, 0, start, end),
     }
 }
 
 pub fn of_lookup(l: lookup::Lookup) -> Words
-    ensures { λ w. ⌜ listOf w ≡ fieldWords (lookupNumbers l) ⌝ }
+    ensures { λ w. ⌜ listOf w ≡ wordsOf lookupShape (lookupNumbers l) ⌝ }
 {
     match l {
         lookup::Lookup::Refused(r) => of_object_refusal(r),
         lookup::Lookup::Absent => refusal(1, 0),
-        lookup::Lookup::Found { field, start, end } => answer(field, start, end),
+        lookup::Lookup::Found {
+            field,
+            id,
+            start,
+            end,
+        } => answer(field, id, start, end),
     }
 }
 
 pub fn of_listing(l: listing::Listing) -> Words
-    ensures { λ w. ⌜ listOf w ≡ fieldWords (listingNumbers l) ⌝ }
+    ensures { λ w. ⌜ listOf w ≡ wordsOf layerShape (listingNumbers l) ⌝ }
 {
     match l {
         listing::Listing::Refused(r) => of_object_refusal(r),
         listing::Listing::NoRoom => refusal(41, 0),
-        listing::Listing::Listed { count, start, end } => answer(count, start, end),
+        listing::Listing::Listed { count, start, end } => answer(count, 0, start, end),
     }
 }
 
-// The one writer: five words to the first 20 bytes, and the code back.
+// The one writer: six words to the strip's first bytes, and the code back.
 pub fn write(strip: &mut [u8], w: Words) -> u32
-    requires { ⌜ 20 ≤ length (now strip) ⌝ }
+    requires { ⌜ stripBytes ≤ length (now strip) ⌝ }
     ensures { λ r. ⌜ Wrote w (now (strip .entry)) r (now (strip .exit)) ⌝ }
 {
     width::pack_u32(strip, 0, w.code as usize);
     width::pack_u32(strip, 4, w.number);
-    width::pack_u32(strip, 8, w.start);
-    width::pack_u32(strip, 12, w.end);
-    width::pack_u32(strip, 16, w.place);
+    width::pack_u32(strip, 8, w.id);
+    width::pack_u32(strip, 12, w.start);
+    width::pack_u32(strip, 16, w.end);
+    width::pack_u32(strip, 20, w.place);
     w.code
 }

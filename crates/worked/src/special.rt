@@ -60,7 +60,7 @@ fn as_p(b: u8) -> bool {
         b,
     ];
     let a = ask::lookup(b"\x11\x02\x00\x04\x08flowroll", &p, b"flow");
-    cases::expected::is(b"0 0 8 10 0", cases::Outcome::Answered(a), &[0; 1])
+    cases::expected::is(b"0 0 0 8 10 0", cases::Outcome::Answered(a), &[0; 1])
 }
 
 // How many bytes from 0 on may stand after P.

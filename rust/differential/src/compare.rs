@@ -7,18 +7,19 @@
 //! Of an object over an accepted dictionary: the Rust accepts it exactly when our layer does and
 //! the Rust accepts each child that our listing gives; then counts, trimmed ends and names in
 //! field order are equal, each field is the value read from our child bytes, and a lookup finds
-//! exactly what `get` yields. The same is asked of a copy with children that the Rust accepts
-//! (see [`traced`]), which gives a verdict on the layer alone, and places.
+//! exactly what `get` yields, with an id whose entry is the query and stands where the Rust reads
+//! the field's name. The same is asked of a copy with children that the Rust accepts (see
+//! [`traced`]), which gives a verdict on the layer alone, and places.
 //!
 //! Of our own answers besides: each function gives the same refusal; an accepted layer's numbers
-//! are those of its header; a listing's spans are those of its starts; words after a listing, and
-//! all words under a refusal, stay.
+//! are those of its header; a listing's spans are those of its starts; a lookup's id is the
+//! listing's; words after a listing, and all words under a refusal, stay.
 
 use crate::original::{
     dictionary_number, may_be_object_number, place_in, same_value, traced, traced_start,
     utf8_error, words,
 };
-use crate::ours::{Reader, absent, accepted, refused};
+use crate::ours::{Reader, absent, accepted, found, refused};
 use crate::reading::{DictionaryParts, ObjectParts};
 use crate::tally::Tally;
 use crate::{Input, hex};
@@ -285,6 +286,7 @@ impl<'d, R: Reader> Pair<'_, 'd, R> {
         let lookups = self.lookups(&fields, query);
         let whole = self.whole(&fields, &lookups, tally)?;
         let alone = self.alone(&fields, &lookups, tally)?;
+        self.ids(&fields, &lookups)?;
         if whole || alone {
             tally.fields += fields.len() as u64;
             lookups.iter().for_each(|lookup| lookup.count(tally));
@@ -302,6 +304,13 @@ impl<'d, R: Reader> Pair<'_, 'd, R> {
         let start = parts.offsets.end();
         let numbers = accepted(parts.ids.count, start, start + region.len());
         agree("a layer's numbers", self.layer, numbers)
+    }
+
+    /// Whether an entry stands where the Rust reads a name.
+    fn is_entry(&self, entry: usize, name: &str) -> bool {
+        self.metadata
+            .get(entry)
+            .is_ok_and(|other| std::ptr::eq(other, name))
     }
 
     /// Our listing, after a look at what it may not touch.
@@ -357,6 +366,15 @@ impl<'d, R: Reader> Pair<'_, 'd, R> {
             query,
         };
         queries.into_iter().map(ask).collect()
+    }
+
+    /// The id that a lookup finds is the listing's.
+    fn ids(&self, fields: &[Field], lookups: &[Lookup]) -> Compared {
+        for Lookup { query, ours } in lookups.iter().filter(|lookup| lookup.ours.code == OK) {
+            let listed = fields.get(ours.number as usize).map(|field| field.id);
+            agree(&format!("the id of {}", hex(query)), Some(ours.id), listed)?;
+        }
+        Ok(())
     }
 
     /// The object as it is: accepted exactly when each child is, and then the same throughout.
@@ -432,7 +450,8 @@ impl<'d, R: Reader> Pair<'_, 'd, R> {
         Ok(())
     }
 
-    /// A lookup finds what `get` yields, and nothing exactly where that is nothing.
+    /// A lookup finds what `get` yields, and nothing exactly where that is nothing. The entry of
+    /// its id is the query, and stands where the Rust reads the field's name.
     fn gets(
         &self,
         theirs: &VariantObject,
@@ -440,14 +459,18 @@ impl<'d, R: Reader> Pair<'_, 'd, R> {
         is_at: impl Fn(&Variant, usize) -> bool,
     ) -> Compared {
         for Lookup { query, ours } in lookups {
-            let (field, start) = (ours.number as usize, ours.start as usize);
+            let (field, id) = (ours.number as usize, ours.id as usize);
+            let start = ours.start as usize;
             let text = std::str::from_utf8(query).ok();
             let value = text.and_then(|text| theirs.get(text));
             let agrees = match &value {
                 None => *ours == absent(),
                 Some(value) => {
-                    *ours == accepted(field, start, self.layer.end as usize)
-                        && theirs.field_name(field) == text
+                    let name = theirs.field_name(field);
+                    *ours == found(field, id, start, self.layer.end as usize)
+                        && name == text
+                        && self.metadata.get(id).ok().map(str::as_bytes) == Some(query)
+                        && name.is_some_and(|name| self.is_entry(id, name))
                         && is_at(value, start)
                 }
             };

@@ -1,6 +1,6 @@
 //! Readers that are wrong on purpose, to see that the comparison tells.
 
-use crate::ours::{Reader, absent, accepted, refused};
+use crate::ours::{Reader, absent, accepted, found, refused};
 use lichenhusk::{ABSENT, OK, Strip};
 
 /// What a wrong reader does wrong.
@@ -14,6 +14,16 @@ pub enum Fault {
     AlwaysAbsent,
     /// Says field 0 of every name that it finds.
     AlwaysFieldZero,
+    /// Gives the field as the id.
+    FieldAsId,
+    /// Gives field and id in each other's word.
+    SwapsFieldAndId,
+    /// Gives the first entry of that name, whichever is the field's.
+    FirstEntryAsId,
+    /// Gives no id.
+    NoId,
+    /// Leaves an id where a name is absent.
+    IdOfAbsent,
     /// Hands back the whole object as the child.
     WholeObject,
     /// Ends a child at the next larger offset.
@@ -75,11 +85,16 @@ pub enum Fault {
 }
 
 /// Every fault.
-pub const ALL: [Fault; 33] = [
+pub const ALL: [Fault; 38] = [
     Fault::AlwaysShort,
     Fault::AbsentIsFound,
     Fault::AlwaysAbsent,
     Fault::AlwaysFieldZero,
+    Fault::FieldAsId,
+    Fault::SwapsFieldAndId,
+    Fault::FirstEntryAsId,
+    Fault::NoId,
+    Fault::IdOfAbsent,
     Fault::WholeObject,
     Fault::EndsAtNextOffset,
     Fault::UntrimmedDictionary,
@@ -219,20 +234,29 @@ impl<R: Reader> Reader for Faulty<R> {
 
     fn lookup(&self, dict: &[u8], object: &[u8], name: &[u8]) -> Strip {
         let strip = self.reader.lookup(dict, object, name);
-        let (field, start, end) = (strip.number as usize, strip.start, strip.end as usize);
+        let (field, id) = (strip.number as usize, strip.id as usize);
+        let (start, end) = (strip.start, strip.end as usize);
+        let from = start as usize;
         match (self.fault, strip.code) {
             (Fault::AbsentIsFound, ABSENT) => accepted(0, 0, 0),
             (Fault::AlwaysAbsent, OK) => absent(),
-            (Fault::AlwaysFieldZero, OK) => accepted(0, start as usize, end),
-            (Fault::WholeObject, OK) => accepted(field, 0, end),
+            (Fault::AlwaysFieldZero, OK) => found(0, id, from, end),
+            (Fault::FieldAsId, OK) => found(field, field, from, end),
+            (Fault::SwapsFieldAndId, OK) => found(id, field, from, end),
+            (Fault::FirstEntryAsId, OK) => {
+                let is_it = |&entry: &usize| {
+                    let at = self.reader.name(dict, entry);
+                    dict[at.start as usize..at.end as usize] == *name
+                };
+                found(field, (0..id).find(is_it).unwrap_or(id), from, end)
+            }
+            (Fault::NoId, OK) => found(field, 0, from, end),
+            (Fault::IdOfAbsent, ABSENT) => Strip { id: 1, ..strip },
+            (Fault::WholeObject, OK) => found(field, id, 0, end),
             (Fault::EndsAtNextOffset, OK) => {
                 let starts = self.starts(dict, object);
                 let next = starts.into_iter().filter(|&other| other > start).min();
-                accepted(
-                    field,
-                    start as usize,
-                    next.map_or(end, |next| next as usize),
-                )
+                found(field, id, from, next.map_or(end, |next| next as usize))
             }
             _ => self.wrong(strip),
         }

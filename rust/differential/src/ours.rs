@@ -5,13 +5,13 @@ use lichenhusk::{STRIP_BYTES, Strip, raw};
 /// What can be asked of our side. It is a trait so that a test can put a wrong reader in the
 /// archive's place and see that the comparison tells.
 pub trait Reader {
-    /// Entry count, 0, trimmed end.
+    /// Entry count, trimmed end.
     fn dictionary(&self, dict: &[u8]) -> Strip;
-    /// 0, start, end.
+    /// Start, end.
     fn name(&self, dict: &[u8], entry: usize) -> Strip;
     /// Field count, region start, trimmed end.
     fn layer(&self, dict: &[u8], object: &[u8]) -> Strip;
-    /// Field, start, end.
+    /// Field, id, start, end.
     fn lookup(&self, dict: &[u8], object: &[u8], name: &[u8]) -> Strip;
     /// As the layer, and the words filled.
     fn list(&self, dict: &[u8], object: &[u8], words: &mut [u32]) -> Strip;
@@ -43,7 +43,7 @@ impl Reader for Archive {
     }
 }
 
-/// The strip of a call. It holds other bytes before, so that each of the twenty must be written.
+/// The strip of a call. It holds other bytes before, so that each of them must be written.
 fn filled(call: impl FnOnce(&mut [u8]) -> u32) -> Strip {
     let mut bytes = [0xEE; STRIP_BYTES];
     let code = call(&mut bytes);
@@ -57,17 +57,24 @@ pub fn refused(code: u32, place: u32) -> Strip {
     Strip {
         code,
         number: 0,
+        id: 0,
         start: 0,
         end: 0,
         place,
     }
 }
 
-/// The strip of what is accepted or found.
+/// The strip of what is accepted.
 pub fn accepted(number: usize, start: usize, end: usize) -> Strip {
+    found(number, 0, start, end)
+}
+
+/// The strip of a field that is found.
+pub fn found(field: usize, id: usize, start: usize, end: usize) -> Strip {
     Strip {
         code: lichenhusk::OK,
-        number: number as u32,
+        number: field as u32,
+        id: id as u32,
         start: start as u32,
         end: end as u32,
         place: 0,

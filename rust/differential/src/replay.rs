@@ -109,8 +109,8 @@ enum Says {
     /// The same of an object of which the Rust refuses a child, by what it says to the object with
     /// other children.
     Child(usize, usize),
-    /// A field of an object: which, and start and end of its child.
-    Found(usize, usize, usize),
+    /// A field of an object: which, its id, and start and end of its child.
+    Found(usize, usize, usize, usize),
     /// Nothing of that name.
     Absent,
     /// Refused, by our number if the Rust's words tell it.
@@ -125,7 +125,7 @@ impl fmt::Display for Says {
             }
             Says::Name(start, end) => write!(to, "at {start} {end}"),
             Says::Child(count, end) => write!(to, "child {count} {end}"),
-            Says::Found(field, start, end) => write!(to, "found {field} {start} {end}"),
+            Says::Found(field, id, start, end) => write!(to, "found {field} {id} {start} {end}"),
             Says::Absent => write!(to, "absent"),
             Says::Refused(Some(number)) => write!(to, "refuses {number}"),
             Says::Refused(None) => write!(to, "refuses -"),
@@ -295,7 +295,21 @@ fn lookup(theirs: &VariantObject, copy: &[u8], name: &str) -> Option<Says> {
         return Some(Says::Absent);
     }
     let field = (0..theirs.len()).find(|&field| theirs.field_name(field) == Some(name))?;
+    let id = entry_of(&theirs.metadata, theirs.field_name(field)?)?;
     let alone = VariantObject::try_new(theirs.metadata.clone(), copy).ok()?;
     let start = traced_start(&alone.get(name)?, copy)?;
-    Some(Says::Found(field, start, theirs.value.len()))
+    Some(Says::Found(field, id, start, theirs.value.len()))
+}
+
+/// The entry that stands where a field's name was read; nothing where two do, as names of no bytes
+/// may.
+fn entry_of(metadata: &VariantMetadata, name: &str) -> Option<usize> {
+    let is_it = |&entry: &usize| {
+        metadata
+            .get(entry)
+            .is_ok_and(|other| std::ptr::eq(other, name))
+    };
+    let mut entries = (0..metadata.len()).filter(is_it);
+    let entry = entries.next()?;
+    entries.next().is_none().then_some(entry)
 }

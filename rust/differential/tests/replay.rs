@@ -30,17 +30,19 @@ fn holds(case: &str, says: &str, strip: Strip) -> bool {
     let words: Vec<&str> = says.split(' ').collect();
     let number = |word: &str| word.parse::<u32>().expect("a number");
     let (code, start, place) = (strip.code, strip.start, strip.place);
-    let ours = [code, strip.number, start, strip.end, place];
+    let ours = [code, strip.number, strip.id, start, strip.end, place];
     match words[..] {
         ["accepts", count, end] if case.starts_with("dictionary") => {
-            ours == [0, number(count), 0, number(end), 0]
+            ours == [0, number(count), 0, 0, number(end), 0]
         }
-        ["accepts" | "child", count, end] => ours == [0, number(count), start, number(end), 0],
-        ["at", start, end] => ours == [0, 0, number(start), number(end), 0],
-        ["found", field, start, end] => ours == [0, number(field), number(start), number(end), 0],
-        ["absent"] => ours == [1, 0, 0, 0, 0],
-        ["refuses", "-"] => code >= 10 && ours == [code, 0, 0, 0, place],
-        ["refuses", code] => ours == [number(code), 0, 0, 0, place],
+        ["accepts" | "child", count, end] => ours == [0, number(count), 0, start, number(end), 0],
+        ["at", start, end] => ours == [0, 0, 0, number(start), number(end), 0],
+        ["found", field, id, start, end] => {
+            ours == [0, number(field), number(id), number(start), number(end), 0]
+        }
+        ["absent"] => ours == [1, 0, 0, 0, 0, 0],
+        ["refuses", "-"] => code >= 10 && ours == [code, 0, 0, 0, 0, place],
+        ["refuses", code] => ours == [number(code), 0, 0, 0, 0, place],
         _ => panic!("no answer: {says}"),
     }
 }

@@ -41,7 +41,7 @@ pub use strip::Strip;
 pub const LIMIT: usize = 65_536;
 
 /// The bytes of a strip that an answer fills.
-pub const STRIP_BYTES: usize = 20;
+pub const STRIP_BYTES: usize = 24;
 
 /// The words of a listing for each field.
 pub const WORDS_PER_FIELD: usize = 3;
@@ -77,6 +77,8 @@ pub struct Layer {
 pub struct Found {
     /// Which field, counted from 0 in the object's order.
     pub field: usize,
+    /// The entry of the dictionary that is its name: [`name`] there gives the bytes looked for.
+    pub id: u32,
     /// Where its child starts in the object.
     pub start: usize,
     /// Where the child ends: at the end of the object's own bytes, for every child.
@@ -150,14 +152,16 @@ pub fn layer(dict: &[u8], object: &[u8]) -> Result<Layer, Refusal> {
 ///
 /// let dict = b"\x11\x02\x00\x04\x08flowroll";
 /// let object = b"\x02\x02\x00\x01\x01\x00\x03\x04\x0C\xFB";
-/// let roll = Found { field: 1, start: 7, end: 10 };
+/// let roll = Found { field: 1, id: 1, start: 7, end: 10 };
 /// assert_eq!(lichenhusk::lookup(dict, object, b"roll"), Ok(Some(roll)));
+/// assert_eq!(lichenhusk::name(dict, roll.id as usize), Ok(&b"roll"[..]));
 /// assert_eq!(lichenhusk::lookup(dict, object, b"rol"), Ok(None));
 /// ```
 pub fn lookup(dict: &[u8], object: &[u8], name: &[u8]) -> Result<Option<Found>, Refusal> {
     let strip = Strip::of(|strip| raw::lookup(dict, object, name, strip)).accepted()?;
     Ok((strip.code == OK).then_some(Found {
         field: strip.number as usize,
+        id: strip.id,
         start: strip.start as usize,
         end: strip.end as usize,
     }))

@@ -63,7 +63,7 @@ unsafe extern "C" {
     fn lichenhusk_empty(room: *mut u8, room_len: usize) -> u32;
 }
 
-/// Looks for the field of a name; the strip holds field, start and end.
+/// Looks for the field of a name; the strip holds field, id, start and end.
 pub fn lookup(dict: &[u8], object: &[u8], name: &[u8], strip: &mut [u8]) -> u32 {
     // SAFETY: as the head of this module says.
     unsafe {
@@ -80,13 +80,13 @@ pub fn lookup(dict: &[u8], object: &[u8], name: &[u8], strip: &mut [u8]) -> u32 
     }
 }
 
-/// Checks a dictionary; the strip holds entry count, 0 and trimmed end.
+/// Checks a dictionary; the strip holds entry count and trimmed end.
 pub fn dictionary(dict: &[u8], strip: &mut [u8]) -> u32 {
     // SAFETY: as the head of this module says.
     unsafe { lichenhusk_dictionary(dict.as_ptr(), dict.len(), strip.as_mut_ptr(), strip.len()) }
 }
 
-/// Finds the name of an entry; the strip holds 0, start and end.
+/// Finds the name of an entry; the strip holds start and end.
 pub fn name(dict: &[u8], entry: usize, strip: &mut [u8]) -> u32 {
     // SAFETY: as the head of this module says.
     unsafe {

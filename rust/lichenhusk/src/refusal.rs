@@ -1,5 +1,6 @@
 //! Why bytes were refused.
 
+use crate::STRIP_BYTES;
 use std::error::Error;
 use std::fmt;
 
@@ -88,7 +89,7 @@ pub enum Refusal {
     },
     /// 31: the dictionary has no entry of that number.
     NoSuchEntry,
-    /// 40: the strip is shorter than [`STRIP_BYTES`](crate::STRIP_BYTES).
+    /// 40: the strip is shorter than [`STRIP_BYTES`].
     StripTooShort,
     /// 41: there are fewer than three words of room for each field.
     WordsTooFew,
@@ -243,7 +244,7 @@ impl fmt::Display for Refusal {
                 "the offset of the object's field {field} is above the length of the children's bytes"
             ),
             NoSuchEntry => write!(to, "the dictionary has no entry of that number"),
-            StripTooShort => write!(to, "the strip is shorter than 20 bytes"),
+            StripTooShort => write!(to, "the strip is shorter than {STRIP_BYTES} bytes"),
             WordsTooFew => write!(
                 to,
                 "there are fewer than three words of room for each field"

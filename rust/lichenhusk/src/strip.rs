@@ -1,8 +1,8 @@
-//! The five words of an answer.
+//! The six words of an answer.
 
 use crate::{ABSENT, OK, Refusal, STRIP_BYTES};
 
-/// An answer as it stands in a strip: five numbers.
+/// An answer as it stands in a strip: six numbers.
 ///
 /// ```
 /// use lichenhusk::{Strip, raw};
@@ -18,6 +18,8 @@ pub struct Strip {
     pub code: u32,
     /// An entry count, a field count or a field, by the function that was asked.
     pub number: u32,
+    /// The dictionary's entry that is the name of a field that was found.
+    pub id: u32,
     /// Where what was found starts.
     pub start: u32,
     /// Where it ends.
@@ -40,9 +42,10 @@ impl Strip {
         Strip {
             code: word(0),
             number: word(1),
-            start: word(2),
-            end: word(3),
-            place: word(4),
+            id: word(2),
+            start: word(3),
+            end: word(4),
+            place: word(5),
         }
     }
 

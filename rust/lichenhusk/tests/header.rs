@@ -52,7 +52,7 @@ fn every_number_is_there() {
         ),
         ("LICHENHUSK_EMPTY_BYTES".to_string(), 3),
     ]);
-    let words = ["CODE", "NUMBER", "START", "END", "PLACE"];
+    let words = ["CODE", "NUMBER", "ID", "START", "END", "PLACE"];
     for (index, word) in words.into_iter().enumerate() {
         known.insert(format!("LICHENHUSK_{word}"), index as u32);
     }
@@ -119,5 +119,5 @@ fn the_example_runs() {
     compile("cc", "c", &source, &options);
     let output = Command::new(&program).output().expect("the example runs");
     assert!(output.status.success());
-    assert_eq!(output.stdout, b"field 0, bytes 8 to 10\n");
+    assert_eq!(output.stdout, b"field 0, entry 0, bytes 8 to 10\n");
 }

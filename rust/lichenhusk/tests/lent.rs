@@ -51,14 +51,17 @@ fn a_short_strip_is_refused_first_and_left() {
 #[test]
 fn a_short_strip_leaves_the_words() {
     let mut words = [7; 6];
-    assert_eq!(raw::list(&hex(D), &hex(P), &mut words, &mut [0; 19]), 40);
+    assert_eq!(
+        raw::list(&hex(D), &hex(P), &mut words, &mut [0; STRIP_BYTES - 1]),
+        40
+    );
     assert_eq!(words, [7; 6]);
 }
 
 #[test]
 fn bytes_after_the_strip_stay() {
     for (name, call) in calls().into_iter().chain(refused_calls()) {
-        for length in [20, 21, 24, 40] {
+        for length in [STRIP_BYTES, STRIP_BYTES + 1, STRIP_BYTES + 4, 40] {
             let mut strip = vec![BEFORE; length];
             let code = call(&mut strip);
             assert_eq!(strip[..4], code.to_le_bytes(), "{name}");
@@ -70,8 +73,8 @@ fn bytes_after_the_strip_stay() {
     }
 }
 
-/// The five words of a call's answer, from a strip that held something else.
-fn words_of(call: fn(&mut [u8]) -> u32) -> [u32; 5] {
+/// The six words of a call's answer, from a strip that held something else.
+fn words_of(call: fn(&mut [u8]) -> u32) -> [u32; 6] {
     let mut bytes = [BEFORE; STRIP_BYTES];
     let code = call(&mut bytes);
     let strip = Strip::read(&bytes);
@@ -79,6 +82,7 @@ fn words_of(call: fn(&mut [u8]) -> u32) -> [u32; 5] {
     [
         strip.code,
         strip.number,
+        strip.id,
         strip.start,
         strip.end,
         strip.place,
@@ -88,17 +92,17 @@ fn words_of(call: fn(&mut [u8]) -> u32) -> [u32; 5] {
 #[test]
 fn every_word_of_each_answer() {
     let answers = [
-        [0, 1, 7, 10, 0],
-        [0, 2, 0, 13, 0],
-        [0, 0, 9, 13, 0],
-        [0, 2, 7, 10, 0],
-        [0, 2, 7, 10, 0],
+        [0, 1, 1, 7, 10, 0],
+        [0, 2, 0, 0, 13, 0],
+        [0, 0, 0, 9, 13, 0],
+        [0, 2, 0, 7, 10, 0],
+        [0, 2, 0, 7, 10, 0],
     ];
     for ((name, call), answer) in calls().into_iter().zip(answers) {
         assert_eq!(words_of(call), answer, "{name}");
     }
     for (name, call) in refused_calls() {
-        assert_eq!(words_of(call), [12, 0, 0, 0, 0], "{name}");
+        assert_eq!(words_of(call), [12, 0, 0, 0, 0, 0], "{name}");
     }
 }
 
@@ -106,19 +110,19 @@ fn every_word_of_each_answer() {
 fn every_word_of_absence_and_of_a_placed_refusal() {
     assert_eq!(
         words_of(|strip| raw::lookup(&hex(D), &hex(P), b"rol", strip)),
-        [1, 0, 0, 0, 0]
+        [1, 0, 0, 0, 0, 0]
     );
     assert_eq!(
         words_of(|strip| raw::lookup(&hex(D), &hex("02 02 01 00 00 00 00"), b"flow", strip)),
-        [26, 0, 0, 0, 1]
+        [26, 0, 0, 0, 0, 1]
     );
     assert_eq!(
         words_of(|strip| raw::name(&hex(D), 2, strip)),
-        [31, 0, 0, 0, 0]
+        [31, 0, 0, 0, 0, 0]
     );
     assert_eq!(
         words_of(|strip| raw::list(&hex(D), &hex(P), &mut [0; 5], strip)),
-        [41, 0, 0, 0, 0]
+        [41, 0, 0, 0, 0, 0]
     );
 }
 

@@ -114,6 +114,7 @@ fn names_with_many_bytes_in_common() {
                 lichenhusk::lookup(&dict, &object, name.as_bytes()),
                 Ok(Some(Found {
                     field,
+                    id: field as u32,
                     start,
                     end: 12
                 })),

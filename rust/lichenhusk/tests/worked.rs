@@ -21,8 +21,13 @@ fn lookup(object: &str, name: &str) -> Result<Option<Found>, Refusal> {
     lichenhusk::lookup(&hex(D), &hex(object), name.as_bytes())
 }
 
-fn found(field: usize, start: usize, end: usize) -> Result<Option<Found>, Refusal> {
-    Ok(Some(Found { field, start, end }))
+fn found(field: usize, id: u32, start: usize, end: usize) -> Result<Option<Found>, Refusal> {
+    Ok(Some(Found {
+        field,
+        id,
+        start,
+        end,
+    }))
 }
 
 #[test]
@@ -93,8 +98,8 @@ fn the_fields_of_p() {
             end: 10
         })
     );
-    assert_eq!(lookup(P, "flow"), found(0, 8, 10));
-    assert_eq!(lookup(P, "roll"), found(1, 7, 10));
+    assert_eq!(lookup(P, "flow"), found(0, 0, 8, 10));
+    assert_eq!(lookup(P, "roll"), found(1, 1, 7, 10));
     assert_eq!(lookup(P, "rol"), Ok(None));
 }
 
@@ -123,8 +128,32 @@ fn the_listing_of_p() {
 fn the_strip_for_roll() {
     let mut strip = [0xEE; STRIP_BYTES];
     assert_eq!(raw::lookup(&hex(D), &hex(P), b"roll", &mut strip), 0);
-    let whole = "00 00 00 00 01 00 00 00 07 00 00 00 0A 00 00 00 00 00 00 00";
+    let whole = "00 00 00 00 01 00 00 00 01 00 00 00 07 00 00 00 0A 00 00 00 00 00 00 00";
     assert_eq!(strip, hex(whole)[..]);
+}
+
+/// The id is the field's own entry: not its number, and not the first entry of that name.
+#[test]
+fn ids_that_are_not_the_field() {
+    assert_eq!(lookup("02 01 01 00 01 0C", "roll"), found(0, 1, 5, 6));
+    assert_eq!(lookup("02 01 01 00 01 0C", "flow"), Ok(None));
+    let (b_and_a, object) = (
+        hex("01 02 00 01 02 62 61"),
+        hex("02 02 01 00 00 01 02 FB FC"),
+    );
+    assert_eq!(
+        lichenhusk::lookup(&b_and_a, &object, b"a"),
+        found(0, 1, 7, 9)
+    );
+    assert_eq!(
+        lichenhusk::lookup(&b_and_a, &object, b"b"),
+        found(1, 0, 8, 9)
+    );
+    let (a_twice, second) = (hex("01 02 00 01 02 61 61"), hex("02 01 01 00 01 00"));
+    assert_eq!(
+        lichenhusk::lookup(&a_twice, &second, b"a"),
+        found(0, 1, 5, 6)
+    );
 }
 
 #[test]
@@ -160,7 +189,7 @@ fn small_objects() {
             end: 3
         })
     );
-    assert_eq!(lookup("02 01 00 00 00", "flow"), found(0, 5, 5));
+    assert_eq!(lookup("02 01 00 00 00", "flow"), found(0, 0, 5, 5));
     let object = hex("02 01 00 00 00");
     let child = lichenhusk::child(&hex(D), &object, b"flow").unwrap();
     let child = child.expect("an empty child is a child");
@@ -183,7 +212,7 @@ fn objects_of_bad_ids() {
 
 #[test]
 fn objects_of_offsets_at_the_end() {
-    assert_eq!(lookup("02 01 00 01 01 00", "flow"), found(0, 6, 6));
+    assert_eq!(lookup("02 01 00 01 01 00", "flow"), found(0, 0, 6, 6));
     assert_eq!(
         layer("02 01 00 02 01 00"),
         Err(Refusal::ObjectOffset { field: 0 })

@@ -1,9 +1,12 @@
--- `ask::dictionary` meets its contract: the strip carries the five numbers whole. Assumes nothing.
+-- `ask::dictionary` meets its contract: the strip carries the six numbers whole. Assumes nothing.
 use mathlib.Core.Path.{ap, _∙_}
 use native.Mathlib.Omega.{arith}
 use borrow.Author.Needs.{needs}
-use Rattle.ask.specs.Numbers.{wordsIn}
-use Rattle.ask.proofs.Laws.{dictionary-read}
+use Rattle.metadata.specs.Dictionary.{verdict}
+use Rattle.words.specs.Six.{dictionaryShape}
+use Rattle.lichenhusk.specs.Host.{wordsIn}
+use Rattle.lichenhusk.proofs.Carries.{carried}
+use Rattle.lichenhusk.proofs.Tells.{dictionary-said}
 use Rattle.ask.proofs.dictionary.Statement.{statement}
 use Rattle.ask.proofs.dictionary.Tie as tie
 
@@ -16,4 +19,6 @@ dictionary-spec =
     (λ c. search needs)  -- slice-aggregate-read
     (λ c κs. search needs)  -- read-requires
     (λ c. let a = c .before .before .before .before .before .before .args in
-    c .read .ensures ∙ ap wordsIn (c .before .before .before .lichenhusk-dictionary .ensures .leaves) ∙ dictionary-read _ (omega arith) (a .dict .now)))  -- returns
+    c .read .ensures ∙ ap wordsIn (c .before .before .before .lichenhusk-dictionary .ensures .leaves)
+    ∙ carried dictionaryShape _ (omega arith) (verdict (a .dict .now))
+    (dictionary-said (a .dict .now) .0)))  -- returns

@@ -1,9 +1,12 @@
--- `ask::layer` meets its contract: the strip carries the five numbers whole. Assumes nothing.
+-- `ask::layer` meets its contract: the strip carries the six numbers whole. Assumes nothing.
 use mathlib.Core.Path.{ap, _∙_}
 use native.Mathlib.Omega.{arith}
 use borrow.Author.Needs.{needs}
-use Rattle.ask.specs.Numbers.{wordsIn}
-use Rattle.ask.proofs.Laws.{layer-read}
+use Rattle.object.specs.Object.{verdict}
+use Rattle.words.specs.Six.{layerShape}
+use Rattle.lichenhusk.specs.Host.{wordsIn}
+use Rattle.lichenhusk.proofs.Carries.{carried}
+use Rattle.lichenhusk.proofs.Tells.{layer-said}
 use Rattle.ask.proofs.layer.Statement.{statement}
 use Rattle.ask.proofs.layer.Tie as tie
 
@@ -16,4 +19,6 @@ layer-spec =
     (λ c. search needs)  -- slice-aggregate-read
     (λ c κs. search needs)  -- read-requires
     (λ c. let a = c .before .before .before .before .before .before .before .args in
-    c .read .ensures ∙ ap wordsIn (c .before .before .before .lichenhusk-layer .ensures .leaves) ∙ layer-read _ (omega arith) (a .dict .now) (a .object .now)))  -- returns
+    c .read .ensures ∙ ap wordsIn (c .before .before .before .lichenhusk-layer .ensures .leaves)
+    ∙ carried layerShape _ (omega arith) (verdict (a .dict .now) (a .object .now))
+    (layer-said (a .dict .now) (a .object .now) .0)))  -- returns

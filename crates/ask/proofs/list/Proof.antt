@@ -1,10 +1,13 @@
--- `ask::list` meets its contract: the strip carries the five numbers whole. Assumes nothing.
+-- `ask::list` meets its contract: the strip carries the six numbers whole. Assumes nothing.
 use mathlib.Core.Path.{ap, _∙_}
 use native.Mathlib.Omega.{arith}
 use borrow.Author.Needs.{needs}
 use Rattle.lichenhusk.specs.Strip.{listAfter}
-use Rattle.ask.specs.Numbers.{wordsIn}
-use Rattle.ask.proofs.Laws.{list-read}
+use Rattle.listing.specs.Words.{listed}
+use Rattle.words.specs.Six.{layerShape}
+use Rattle.lichenhusk.specs.Host.{wordsIn}
+use Rattle.lichenhusk.proofs.Carries.{carried}
+use Rattle.lichenhusk.proofs.Tells.{list-said}
 use Rattle.ask.proofs.list.Statement.{statement}
 use Rattle.ask.proofs.list.Tie as tie
 
@@ -19,5 +22,9 @@ list-spec =
     (λ c κs. search needs)  -- read-requires
     (λ c. search needs)  -- same-length
     (λ c. let a = c .before .before .before .before .before .before .before .before .before .before .before .args in
-    let told = c .before .before .before .before .before .lichenhusk-list .ensures in
-    (c .read .ensures ∙ ap wordsIn (told .strip-left .leaves) ∙ list-read _ (omega arith) (a .dict .now) (a .object .now) (a .words .now), told .words-left)))  -- returns
+    let told = c .before .before .before .before .before .lichenhusk-list .ensures in (
+      c .read .ensures ∙ ap wordsIn (told .strip-left .leaves)
+          ∙ carried layerShape _ (omega arith) (listed (a .dict .now) (a .object .now) (a .words .now))
+          (list-said (a .dict .now) (a .object .now) (a .words .now) .0),
+      told .words-left,
+    )))  -- returns

@@ -1,9 +1,12 @@
--- `ask::lookup` meets its contract: the strip carries the five numbers whole. Assumes nothing.
+-- `ask::lookup` meets its contract: the strip carries the six numbers whole. Assumes nothing.
 use mathlib.Core.Path.{ap, _∙_}
 use native.Mathlib.Omega.{arith}
 use borrow.Author.Needs.{needs}
-use Rattle.ask.specs.Numbers.{wordsIn}
-use Rattle.ask.proofs.Laws.{lookup-read}
+use Rattle.lookup.specs.ByName.{lookup}
+use Rattle.words.specs.Six.{lookupShape}
+use Rattle.lichenhusk.specs.Host.{wordsIn}
+use Rattle.lichenhusk.proofs.Carries.{carried}
+use Rattle.lichenhusk.proofs.Tells.{lookup-said}
 use Rattle.ask.proofs.lookup.Statement.{statement}
 use Rattle.ask.proofs.lookup.Tie as tie
 
@@ -16,4 +19,6 @@ lookup-spec =
     (λ c. search needs)  -- slice-aggregate-read
     (λ c κs. search needs)  -- read-requires
     (λ c. let a = c .before .before .before .before .before .before .before .before .args in
-    c .read .ensures ∙ ap wordsIn (c .before .before .before .lichenhusk-lookup .ensures .leaves) ∙ lookup-read _ (omega arith) (a .dict .now) (a .object .now) (a .name .now)))  -- returns
+    c .read .ensures ∙ ap wordsIn (c .before .before .before .lichenhusk-lookup .ensures .leaves)
+    ∙ carried lookupShape _ (omega arith) (lookup (a .dict .now) (a .object .now) (a .name .now))
+    (lookup-said (a .dict .now) (a .object .now) (a .name .now) .0)))  -- returns

@@ -1,9 +1,12 @@
--- `ask::name` meets its contract: the strip carries the five numbers whole. Assumes nothing.
+-- `ask::name` meets its contract: the strip carries the six numbers whole. Assumes nothing.
 use mathlib.Core.Path.{ap, _∙_}
 use native.Mathlib.Omega.{arith}
 use borrow.Author.Needs.{needs}
-use Rattle.ask.specs.Numbers.{wordsIn}
-use Rattle.ask.proofs.Laws.{name-read}
+use Rattle.metadata.specs.Dictionary.{nameAt}
+use Rattle.words.specs.Six.{nameShape}
+use Rattle.lichenhusk.specs.Host.{wordsIn}
+use Rattle.lichenhusk.proofs.Carries.{carried}
+use Rattle.lichenhusk.proofs.Tells.{name-said}
 use Rattle.ask.proofs.name.Statement.{statement}
 use Rattle.ask.proofs.name.Tie as tie
 
@@ -16,4 +19,6 @@ name-spec =
     (λ c. search needs)  -- slice-aggregate-read
     (λ c κs. search needs)  -- read-requires
     (λ c. let a = c .before .before .before .before .before .before .args in
-    c .read .ensures ∙ ap wordsIn (c .before .before .before .lichenhusk-name .ensures .leaves) ∙ name-read _ (omega arith) (a .dict .now) (a .entry)))  -- returns
+    c .read .ensures ∙ ap wordsIn (c .before .before .before .lichenhusk-name .ensures .leaves)
+    ∙ carried nameShape _ (omega arith) (nameAt (a .dict .now) (a .entry))
+    (name-said (a .dict .now) (a .entry) .0)))  -- returns

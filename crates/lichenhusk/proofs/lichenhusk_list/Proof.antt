@@ -1,6 +1,6 @@
 -- `lichenhusk::lichenhusk_list` meets its contract: 40, or the words of the answer and of the listing. Assumes nothing.
 use Rattle.rules.proofs.Prelude.{ap, _∙_, arith, needs, lt-ltb, le-ltb, length}
-use Rattle.words.specs.Five.{fieldWords}
+use Rattle.words.specs.Six.{wordsOf, layerShape, stripBytes}
 use Rattle.lichenhusk.specs.Strip.{listAfter}
 use Rattle.lichenhusk.proofs.Laws.{no-strip, on-strip}
 use Rattle.lichenhusk.proofs.lichenhusk_list.Statement.{statement}
@@ -14,11 +14,11 @@ lichenhusk-list-spec =
     (λ c. record { strip-left = no-strip _ _ (c .if1 .taken); words-left = rw (lt-ltb _ _ (c .if1 .taken)) })  -- returns
     (λ c κs. search needs) (λ c κs. search needs) (λ c κs. search needs) (λ c. search needs) (λ c. search needs)
     (λ c. let w = c .before .before in
-    let five = w .before .before in
-    let l = five .before .before .before in
+    let six = w .before .before in
+    let l = six .before .before .before in
     let answers = l .list .ensures in
     let strip = l .before .before .before .before .before .before .before .args .strip .now in
     record {
-      strip-left = on-strip _ _ (omega arith) (five .of-listing .ensures ∙ ap fieldWords (answers .answers)) (w .write .ensures);
-      words-left = answers .leaves ∙ rw (le-ltb (length strip) 20 (omega arith));
+      strip-left = on-strip _ _ (omega arith) (six .of-listing .ensures ∙ ap (wordsOf layerShape) (answers .answers)) (w .write .ensures);
+      words-left = answers .leaves ∙ rw (le-ltb (length strip) stripBytes (omega arith));
     }))  -- returns-2

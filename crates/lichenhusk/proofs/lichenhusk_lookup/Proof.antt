@@ -1,6 +1,6 @@
 -- `lichenhusk::lichenhusk_lookup` meets its contract: 40, or the words of the answer. Assumes nothing.
 use Rattle.rules.proofs.Prelude.{ap, _∙_, arith, needs}
-use Rattle.words.specs.Five.{fieldWords}
+use Rattle.words.specs.Six.{wordsOf, lookupShape}
 use Rattle.lichenhusk.proofs.Laws.{no-strip, on-strip}
 use Rattle.lichenhusk.proofs.lichenhusk_lookup.Statement.{statement}
 use Rattle.lichenhusk.proofs.lichenhusk_lookup.Tie as tie
@@ -12,5 +12,5 @@ lichenhusk-lookup-spec =
     (λ c. no-strip _ _ (c .if1 .taken))  -- returns
     (λ c κs. search needs) (λ c κs. search needs) (λ c κs. search needs) (λ c. search needs)
     (λ c. let w = c .before .before in
-    let five = w .before .before in
-    on-strip _ _ (omega arith) (five .of-lookup .ensures ∙ ap fieldWords (five .before .get .ensures)) (w .write .ensures)))  -- returns-2
+    let six = w .before .before in
+    on-strip _ _ (omega arith) (six .of-lookup .ensures ∙ ap (wordsOf lookupShape) (six .before .get .ensures)) (w .write .ensures)))  -- returns-2

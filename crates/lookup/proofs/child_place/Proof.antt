@@ -16,5 +16,5 @@ child-place-spec =
     record { start-is = rw e; end-is = rw e; rises = omega arith; inside = omega arith })  -- returns-2
     (λ c. let e = sym (c .before .before .before .get .ensures) ∙ ap lookupNumbers (c .before .found .given .1) in
     let a = c .before .before .before .before .before .before .before .args in
-    let inside = found-inside _ _ _ _ _ _ (found (a .dict .now) (a .object .now) (a .name .now) _ _ _ .0 e) in
+    let inside = found-inside _ _ _ _ _ _ _ (found (a .dict .now) (a .object .now) (a .name .now) _ _ _ _ .0 e) in
     record { start-is = rw e; end-is = rw e; rises = inside .0; inside = inside .1 }))  -- returns-3

@@ -35,12 +35,15 @@ get-over-spec =
     (λ c κs. search needs) (λ c. search needs) (λ c. search needs)
     (λ c κs. opened c)  -- find-requires
     (λ c. search needs) (λ c. search needs)
-    (λ c κs. let a = c .before .before .before .before .before .before .before .before .before .before .before .args in
-    let m = opened (c .before .before .before .before) in
-    (m .layered, field c, omega (arith, in-region (a .dict .now) (a .object .now) (m .passes) _ (field c), end-is (a .object .now))))  -- field-place-requires
+    (λ c κs. (opened (c .before .before .before .before) .layered, field c))  -- id-at-requires
+    (λ c κs. let a = c .before .before .before .before .before .before .before .before .before .before .before .before .args in
+    let m = opened (c .before .before .before .before .before) in
+    let k = field (c .before) in
+    (m .layered, k, omega (arith, in-region (a .dict .now) (a .object .now) (m .passes) _ k, end-is (a .object .now))))  -- field-place-requires
     (λ c. sym (refused _ (rw (c .before .layer .given .1) at (c .before .before .before .check-layer .ensures))))  -- returns
     (λ c. let o = c .before .before .before .before .before .before .before .before .before .before .args .object .now in
     sym (answered _ (opened (c .before .before .before) .passes) ∙ ap (found o) (sym (c .before .before .find .ensures) ∙ ap soughtOf (c .enum-told .given .1))))  -- returns-2
     (λ c. let place = c .field-place .ensures in
-    let o = c .before .before .before .before .before .before .before .before .before .before .before .before .args .object .now in
-    rw (place .0, place .1) (sym (answered _ (opened (c .before .before .before .before .before) .passes) ∙ ap (found o) (sought (c .before))))))  -- returns-3
+    let o = c .before .before .before .before .before .before .before .before .before .before .before .before .before .args .object .now in
+    rw (place .0, place .1, c .before .id-at .ensures .0)
+    (sym (answered _ (opened (c .before .before .before .before .before .before) .passes) ∙ ap (found o) (sought (c .before .before))))))  -- returns-3

@@ -1,7 +1,7 @@
--- `words::write` meets its contract: five words are set, one after another. Assumes nothing.
+-- `words::write` meets its contract: six words are set, one after another. Assumes nothing.
 use Rattle.rules.proofs.Prelude.{refl, _∙_, needs, sets-eq}
 use Rattle.width.specs.Width.{bytesOf}
-use Rattle.words.specs.Five.{bytesOfWords}
+use Rattle.words.specs.Six.{bytesOfWords}
 use Rattle.words.specs.Steps.{listOf}
 use Rattle.words.proofs.write.Statement.{statement}
 use Rattle.words.proofs.write.Tie as tie
@@ -11,9 +11,10 @@ unfolding bytesOf bytesOfWords
 write-spec =
     tie.close
     (tie.spec
-    (λ c. search needs) (λ c κs. search needs) (λ c κs. search needs) (λ c κs. search needs) (λ c κs. search needs) (λ c κs. search needs)
+    (λ c. search needs) (λ c κs. search needs) (λ c κs. search needs) (λ c κs. search needs) (λ c κs. search needs) (λ c κs. search needs) (λ c κs. search needs)
     (λ c. search needs)
-    (λ c. let c5 = c .before .before in
+    (λ c. let c6 = c .before .before in
+    let c5 = c6 .before .before .before .before in
     let c4 = c5 .before .before .before .before in
     let c3 = c4 .before .before .before .before in
     let c2 = c3 .before .before .before .before in
@@ -21,7 +22,7 @@ write-spec =
     let s = c1 .before .before .before .before in
     record {
       returns = refl;
-      leaves = c5 .pack-u325 .ensures
-          ∙ rw (c4 .pack-u324 .ensures, c3 .pack-u323 .ensures, c2 .pack-u322 .ensures, c1 .pack-u32 .ensures)
+      leaves = c6 .pack-u326 .ensures
+          ∙ rw (c5 .pack-u325 .ensures, c4 .pack-u324 .ensures, c3 .pack-u323 .ensures, c2 .pack-u322 .ensures, c1 .pack-u32 .ensures)
           (sets-eq (bytesOfWords (listOf (s .args .w))) (s .args .strip .now) 0 (s .pre));
     }))  -- returns
