@@ -1,6 +1,6 @@
 -- What a host learns from each call, whatever code was returned (specs/Host.antt); and no word of any answer is too large for its four bytes.
 -- Assumes nothing.
-use Rattle.rules.proofs.Prelude.{_≡_, refl, sym, ap, _∙_, List, _++_, ℕ, _*_, _≤_, _<_, decLt, arith, lt-ltb, le-ltb, length, drop, getD, Answer, codeOf, by-meaning}
+use Rattle.rules.proofs.Prelude.{_≡_, refl, sym, ap, _∙_, List, _++_, ℕ, _*_, _≤_, _<_, decLt, arith, lt-ltb, le-ltb, length, drop, getD, List·getD-append, Answer, codeOf, by-meaning}
 use Rattle.chars.specs.Rfc3629.{Completed}
 use Rattle.metadata.specs.Dictionary as dictionary
 use Rattle.metadata.specs.Meaning.{Refusal}
@@ -11,6 +11,7 @@ use Rattle.metadata.proofs.Names as dictionary-names
 use Rattle.metadata.proofs.Fits as dictionary-fits
 use Rattle.metadata.proofs.Says.{too-small, enough}
 use Rattle.object.specs.Object as object
+use Rattle.object.specs.Object.{count}
 use Rattle.object.proofs.Means.{checks-mean}
 use Rattle.object.proofs.Refuses.{is-due}
 use Rattle.object.proofs.Fits.{checks-code, layer-small, child-small}
@@ -19,6 +20,8 @@ use Rattle.lookup.specs.Meaning.{Found, Absent, Spells}
 use Rattle.lookup.specs.Meaning.Spells.{spells}
 use Rattle.lookup.proofs.Found as lookup
 use Rattle.listing.specs.Words.{rows, listed as list-of, wordsAfter as filled}
+use Rattle.listing.proofs.Rows.{rows-length}
+use Rattle.listing.proofs.Listed.{id-word}
 use Rattle.listing.proofs.Lists as listing
 use Rattle.words.specs.Six.{wordsOf, lookupShape, layerShape, dictionaryShape, nameShape, stripBytes}
 use Rattle.lichenhusk.specs.Strip.{lookupWords, layerWords, listWords, verdictWords, nameAtWords, listAfter}
@@ -155,6 +158,19 @@ module _ (strip : List ℕ) (code : ℕ) (after : List ℕ) where
               let left : wordsAfter ≡ filled d o w = promised .words-left ∙ rw (le-ltb (length strip) stripBytes (omega arith)) in
               let s = list-tells .says (λ f. h (list-tells .no-strip .0 f)) in
               let w = by-case (s .1) left in record { filled = λ z. w .0 (s .0 ∙ z); kept = λ m. w .1 (λ z. m (sym (s .0) ∙ z)) }
+
+      -- it returned 0: the id of a field that a lookup finds is the first word of that field's row
+      pub id-listed : code ≡ 0 → (q : List ℕ) (k i a e : ℕ) → Found d o q k i a e → getD wordsAfter (3 * k) 0 ≡ i
+      id-listed z q k i a e f =
+          let s = list-tells .says (λ f. omega arith) in
+          let fills : wordsAfter ≡ rows o (count o) ++ drop (3 * count o) w = rw (counted (s .1) (s .0 ∙ z)) at (list-fills .filled z) in
+          rw fills
+          (List·getD-append (rows o (count o)) _ 0 (3 * k) (omega (arith, rows-length o (count o), f .is-field)) ∙ id-word o (count o) k (f .is-field) ∙ sym (f .is-id))
+        where
+          counted : {x : List ℕ} → ListSays d o w x → getD x 0 0 ≡ 0 → getD x 1 0 ≡ count o
+          counted (listed l) z = l .accepted .counts
+          counted (no-room r) z = absurd (omega arith)
+          counted (list-refused b t r) z = absurd (omega arith)
 
 -- the empty dictionary
 pub empty-tells : (room : List ℕ) (code : ℕ) (after : List ℕ) → EmptyPromise room code after → EmptyTells room code after

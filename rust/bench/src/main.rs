@@ -1,8 +1,10 @@
-//! The clock: check and lookup together, and UTF-8 alone, ours and the Rust's, in one process.
+//! The clock: check and lookup together, the found field's id, and UTF-8 alone, ours and the Rust's,
+//! in one process.
 //!
 //! `cargo run --profile measured -p bench`
 
 mod clock;
+mod ids;
 mod rows;
 mod sides;
 mod texts;
@@ -23,6 +25,13 @@ Nanoseconds of a call, the median of its samples; the sides take turns within a 
 The ratios are ours to the column before them. Each child is an eight-bit integer.";
 
 /// The same for the second table.
+const IDS_LEGEND: &str = "\
+The id of the found field, too.
+  ours      lichenhusk::lookup, whose answer has it
+  twice     lichenhusk::lookup, then lichenhusk::list_into for the field's id
+  Rust      VariantMetadata::try_new, VariantObject::try_new and get, then get_entry for the id";
+
+/// The same for the third table.
 const TEXT_LEGEND: &str = "\
 UTF-8 alone: a dictionary of one name.
   ours      lichenhusk::dictionary: the whole check of that dictionary
@@ -32,6 +41,7 @@ fn main() {
     println!("{}", machine());
     println!("recipe: cargo run --profile measured -p bench; {SAMPLES} samples of each side");
     lookups();
+    ids_too();
     texts_alone();
     println!("\nload after: {}", load());
 }
@@ -64,6 +74,26 @@ fn lookups() {
             ours / whole,
             ours / less,
             ours / shallow,
+        );
+    }
+}
+
+/// The table of ids.
+fn ids_too() {
+    println!("\n{IDS_LEGEND}\n");
+    println!(
+        "{:<55}{:>7}{:>7}{:>11}{:>11}{:>7}{:>11}{:>7}",
+        "row", "dict", "object", "ours", "twice", "ratio", "Rust", "ratio"
+    );
+    for row in ids::taken() {
+        let [ours, twice, theirs] = ids::measured(&row);
+        println!(
+            "{:<55}{:>7}{:>7}{ours:>11.1}{twice:>11.1}{:>7.2}{theirs:>11.1}{:>7.2}",
+            row.label,
+            row.dict.len(),
+            row.object.len(),
+            ours / twice,
+            ours / theirs,
         );
     }
 }

@@ -44,7 +44,8 @@ fn prepared(row: &Row) -> Prepared<'_> {
     }
 }
 
-fn name(row: &Row, turn: usize) -> &str {
+/// The name that is asked for in a turn.
+pub fn name(row: &Row, turn: usize) -> &str {
     black_box(&row.names[turn % row.names.len()])
 }
 

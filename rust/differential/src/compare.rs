@@ -7,9 +7,10 @@
 //! Of an object over an accepted dictionary: the Rust accepts it exactly when our layer does and
 //! the Rust accepts each child that our listing gives; then counts, trimmed ends and names in
 //! field order are equal, each field is the value read from our child bytes, and a lookup finds
-//! exactly what `get` yields, with an id whose entry is the query and stands where the Rust reads
-//! the field's name. The same is asked of a copy with children that the Rust accepts (see
-//! [`traced`]), which gives a verdict on the layer alone, and places.
+//! exactly what `get` yields, with an id whose entry is the query, stands where the Rust reads the
+//! field's name and, in a sorted dictionary, is the one that `get_entry` finds. The same is asked
+//! of a copy with children that the Rust accepts (see [`traced`]), which gives a verdict on the
+//! layer alone, and places.
 //!
 //! Of our own answers besides: each function gives the same refusal; an accepted layer's numbers
 //! are those of its header; a listing's spans are those of its starts; a lookup's id is the
@@ -306,11 +307,14 @@ impl<'d, R: Reader> Pair<'_, 'd, R> {
         agree("a layer's numbers", self.layer, numbers)
     }
 
-    /// Whether an entry stands where the Rust reads a name.
-    fn is_entry(&self, entry: usize, name: &str) -> bool {
-        self.metadata
-            .get(entry)
-            .is_ok_and(|other| std::ptr::eq(other, name))
+    /// Whether an id is that of a field whose name was looked for: its entry is the name, and stands
+    /// where the Rust reads the field's; in a sorted dictionary the Rust's own search finds it.
+    fn is_id(&self, id: usize, text: &str, field_name: &str) -> bool {
+        let metadata = self.metadata;
+        let found = |entry: (u32, &str)| entry.0 as usize == id;
+        let is_it = |entry: &str| entry == text && std::ptr::eq(entry, field_name);
+        metadata.get(id).is_ok_and(is_it)
+            && (!metadata.is_sorted() || metadata.get_entry(text).is_some_and(found))
     }
 
     /// Our listing, after a look at what it may not touch.
@@ -450,8 +454,8 @@ impl<'d, R: Reader> Pair<'_, 'd, R> {
         Ok(())
     }
 
-    /// A lookup finds what `get` yields, and nothing exactly where that is nothing. The entry of
-    /// its id is the query, and stands where the Rust reads the field's name.
+    /// A lookup finds what `get` yields, with the field's id, and nothing exactly where that is
+    /// nothing.
     fn gets(
         &self,
         theirs: &VariantObject,
@@ -462,15 +466,13 @@ impl<'d, R: Reader> Pair<'_, 'd, R> {
             let (field, id) = (ours.number as usize, ours.id as usize);
             let start = ours.start as usize;
             let text = std::str::from_utf8(query).ok();
-            let value = text.and_then(|text| theirs.get(text));
+            let value = text.and_then(|text| Some((text, theirs.get(text)?)));
             let agrees = match &value {
                 None => *ours == absent(),
-                Some(value) => {
+                Some((text, value)) => {
                     let name = theirs.field_name(field);
                     *ours == found(field, id, start, self.layer.end as usize)
-                        && name == text
-                        && self.metadata.get(id).ok().map(str::as_bytes) == Some(query)
-                        && name.is_some_and(|name| self.is_entry(id, name))
+                        && name.is_some_and(|name| self.is_id(id, text, name))
                         && is_at(value, start)
                 }
             };

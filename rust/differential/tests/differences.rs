@@ -43,6 +43,19 @@ fn cut_text() {
     assert_eq!(ours(&corrupt), Refusal::DictionaryNotUtf8 { prefix: 0 });
 }
 
+/// The id is the field's own; the Rust's search in an unsorted dictionary finds the first entry of
+/// that name. No shorter dictionary has two entries, and no shorter object that the Rust accepts a
+/// field.
+#[test]
+fn ids_of_a_name_that_is_there_twice() {
+    let (dict, object) = ([1, 2, 0, 0, 0], [2, 1, 1, 0, 1, 0]);
+    assert!(rust_accepts(&dict, &object));
+    let metadata = VariantMetadata::try_new(&dict).unwrap();
+    assert_eq!(metadata.get_entry("").unwrap().0, 0);
+    let found = lichenhusk::lookup(&dict, &object, b"").unwrap();
+    assert_eq!(found.unwrap().id, 1);
+}
+
 /// A child of no bytes: ours alone. A field takes five bytes, so no shorter object shows it.
 #[test]
 fn empty_children() {

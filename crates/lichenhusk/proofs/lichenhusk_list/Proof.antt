@@ -11,7 +11,7 @@ unfolding listAfter
 lichenhusk-list-spec =
     tie.close
     (tie.spec
-    (λ c. record { strip-left = no-strip _ _ (c .if1 .taken); words-left = rw (lt-ltb _ _ (c .if1 .taken)) })  -- returns
+    (λ c. record { strip-left = no-strip _ _ (omega arith); words-left = rw (lt-ltb _ _ (c .if1 .taken)) })  -- returns
     (λ c κs. search needs) (λ c κs. search needs) (λ c κs. search needs) (λ c. search needs) (λ c. search needs)
     (λ c. let w = c .before .before in
     let six = w .before .before in

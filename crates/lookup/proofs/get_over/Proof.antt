@@ -45,5 +45,5 @@ get-over-spec =
     sym (answered _ (opened (c .before .before .before) .passes) ∙ ap (found o) (sym (c .before .before .find .ensures) ∙ ap soughtOf (c .enum-told .given .1))))  -- returns-2
     (λ c. let place = c .field-place .ensures in
     let o = c .before .before .before .before .before .before .before .before .before .before .before .before .before .args .object .now in
-    rw (place .0, place .1, c .before .id-at .ensures .0)
-    (sym (answered _ (opened (c .before .before .before .before .before .before) .passes) ∙ ap (found o) (sought (c .before .before))))))  -- returns-3
+    rw (← (place .0), ← (place .1), ← (c .before .id-at .ensures .0))
+    at (sym (answered _ (opened (c .before .before .before .before .before .before) .passes) ∙ ap (found o) (sought (c .before .before))))))  -- returns-3
