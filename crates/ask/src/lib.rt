@@ -4,7 +4,7 @@ ghost use mathlib.Core.Path.{_≡_};
 ghost use Prim.Native.Nat.{_≤_};
 ghost use lib.ListN.{length};
 ghost use Rattle.listing.specs.Words.{wordsAfter};
-ghost use Rattle.words.specs.Six.{stripBytes};
+ghost use Rattle.words.specs.Shapes.{stripBytes};
 ghost use Rattle.lichenhusk.specs.Strip.{lookupWords, layerWords, listWords, verdictWords, nameAtWords};
 ghost use Rattle.lichenhusk.specs.Host.{wordsIn};
 ghost use Rattle.ask.specs.Numbers.{numbersOf};

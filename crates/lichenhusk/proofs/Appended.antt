@@ -7,7 +7,7 @@ use Rattle.object.proofs.Appended.{Settled, verdict-appended}
 use Rattle.lookup.proofs.Appended.{lookup-appended}
 use Rattle.listing.specs.Words.{listed}
 use Rattle.listing.proofs.Appended.{listed-appended, words-appended}
-use Rattle.words.specs.Six.{Shape, wordsOf, lookupShape, layerShape, dictionaryShape, nameShape, stripBytes}
+use Rattle.words.specs.Shapes.{Shape, wordsOf, lookupShape, layerShape, dictionaryShape, nameShape, stripBytes}
 use Rattle.lichenhusk.specs.Strip.{returned, stripAfter, listAfter}
 use Rattle.lichenhusk.specs.Promises.{Left, DictionaryPromise, NamePromise, LayerPromise, LookupPromise, ListPromise}
 use Rattle.lichenhusk.proofs.Carries.{first-is}

@@ -9,14 +9,14 @@ use Rattle.object.proofs.Cut as object-cuts
 use Rattle.lookup.proofs.Cut as lookup-cuts
 use Rattle.listing.specs.Words.{wordsAfter}
 use Rattle.listing.proofs.Cut as listing-cuts
-use Rattle.words.specs.Six.{Shape, wordsOf, lookupShape, layerShape, dictionaryShape, nameShape, stripBytes}
+use Rattle.words.specs.Shapes.{Shape, wordsOf, lookupShape, layerShape, dictionaryShape, nameShape, refusalWords, stripBytes}
 use Rattle.lichenhusk.specs.Strip.{listAfter}
 use Rattle.lichenhusk.specs.Promises.{Left, DictionaryPromise, NamePromise, LayerPromise, LookupPromise, ListPromise}
 
 -- the words of one of two refusals at place 0
 abbrev pub LeftAs : (empty short : ℕ) → List ℕ → ℕ → List ℕ → Type 0
 LeftAs empty short strip code after =
-    Left strip (empty ∷ 0 ∷ 0 ∷ 0 ∷ 0 ∷ 0 ∷ []) code after ⊎ Left strip (short ∷ 0 ∷ 0 ∷ 0 ∷ 0 ∷ 0 ∷ []) code after
+    Left strip (refusalWords empty 0) code after ⊎ Left strip (refusalWords short 0) code after
 
 of-words : {a b : ℕ} (shape : Shape) (strip : List ℕ) (x : Answer) {code : ℕ} {after : List ℕ} → RefusedAs a b x
     → Left strip (wordsOf shape x) code after → Left strip (wordsOf shape (refuse a 0)) code after ⊎ Left strip (wordsOf shape (refuse b 0)) code after

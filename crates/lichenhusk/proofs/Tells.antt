@@ -23,7 +23,7 @@ use Rattle.listing.specs.Words.{rows, listed as list-of, wordsAfter as filled}
 use Rattle.listing.proofs.Rows.{rows-length}
 use Rattle.listing.proofs.Listed.{id-word}
 use Rattle.listing.proofs.Lists as listing
-use Rattle.words.specs.Six.{wordsOf, lookupShape, layerShape, dictionaryShape, nameShape, stripBytes}
+use Rattle.words.specs.Shapes.{wordsOf, lookupShape, layerShape, dictionaryShape, nameShape, stripBytes}
 use Rattle.lichenhusk.specs.Strip.{lookupWords, layerWords, listWords, verdictWords, nameAtWords, listAfter}
 use Rattle.lichenhusk.specs.Promises.{DictionaryPromise, NamePromise, LayerPromise, LookupPromise, ListPromise, EmptyPromise}
 use Rattle.lichenhusk.specs.Host.{word, Tells, DictionarySays, NameSays, LayerSays, LookupSays, Spelled, ListSays, Fills, EmptyTells}

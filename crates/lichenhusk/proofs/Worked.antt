@@ -11,7 +11,7 @@ use Rattle.metadata.specs.Dictionary as dictionary
 use Rattle.object.specs.Object as object
 use Rattle.lookup.specs.ByName as by-name
 use Rattle.listing.specs.Words as listing
-use Rattle.words.specs.Six.{bytesOfWords}
+use Rattle.words.specs.Shapes.{bytesOfWords}
 use Rattle.lichenhusk.specs.Strip.{stripAfter}
 use Rattle.lichenhusk.specs.Worked.{Asked, Told, tell, starred}
 

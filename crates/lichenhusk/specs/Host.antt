@@ -13,27 +13,27 @@ use Rattle.object.specs.Meaning.{Layer, Refusal}
 use Rattle.lookup.specs.Meaning.{Found, Absent}
 use Rattle.listing.specs.Words.{rows}
 use Rattle.listing.specs.Meaning.{Listed, NoRoom}
-use Rattle.words.specs.Six.{stripBytes}
+use Rattle.words.specs.Shapes.{refusalWords, stripBytes}
 
 -- WHAT CODE, NUMBER, ID, START, END AND PLACE SAY, call by call
 
 pub data DictionarySays (d : List ℕ) : List ℕ → Type 0 where
   accepted : {n e : ℕ} → dictionary.Dictionary d n e → DictionarySays d (0 ∷ n ∷ 0 ∷ 0 ∷ e ∷ 0 ∷ [])
-  refused : {c p : ℕ} → 10 ≤ c → c < 20 → dictionary.Refusal d c p → DictionarySays d (c ∷ 0 ∷ 0 ∷ 0 ∷ 0 ∷ p ∷ [])
+  refused : {c p : ℕ} → 10 ≤ c → c < 20 → dictionary.Refusal d c p → DictionarySays d (refusalWords c p)
 
 pub data NameSays (d : List ℕ) (i : ℕ) : List ℕ → Type 0 where
   named : {a e : ℕ} → dictionary.Named d i a e → NameSays d i (0 ∷ 0 ∷ 0 ∷ a ∷ e ∷ 0 ∷ [])
-  no-entry : dictionary.NoEntry d i → NameSays d i (31 ∷ 0 ∷ 0 ∷ 0 ∷ 0 ∷ 0 ∷ [])
-  refused : {c p : ℕ} → 10 ≤ c → c < 20 → dictionary.Refusal d c p → NameSays d i (c ∷ 0 ∷ 0 ∷ 0 ∷ 0 ∷ p ∷ [])
+  no-entry : dictionary.NoEntry d i → NameSays d i (refusalWords 31 0)
+  refused : {c p : ℕ} → 10 ≤ c → c < 20 → dictionary.Refusal d c p → NameSays d i (refusalWords c p)
 
 pub data LayerSays (d o : List ℕ) : List ℕ → Type 0 where
   accepted : {n v e : ℕ} → Layer d o n v e → LayerSays d o (0 ∷ n ∷ 0 ∷ v ∷ e ∷ 0 ∷ [])
-  refused : {c p : ℕ} → 10 ≤ c → c < 28 → Refusal d o c p → LayerSays d o (c ∷ 0 ∷ 0 ∷ 0 ∷ 0 ∷ p ∷ [])
+  refused : {c p : ℕ} → 10 ≤ c → c < 28 → Refusal d o c p → LayerSays d o (refusalWords c p)
 
 pub data LookupSays (d o q : List ℕ) : List ℕ → Type 0 where
   found : {k i a e : ℕ} → Found d o q k i a e → LookupSays d o q (0 ∷ k ∷ i ∷ a ∷ e ∷ 0 ∷ [])
-  absent : Absent d o q → LookupSays d o q (1 ∷ 0 ∷ 0 ∷ 0 ∷ 0 ∷ 0 ∷ [])
-  refused : {c p : ℕ} → 10 ≤ c → c < 28 → Refusal d o c p → LookupSays d o q (c ∷ 0 ∷ 0 ∷ 0 ∷ 0 ∷ p ∷ [])
+  absent : Absent d o q → LookupSays d o q (refusalWords 1 0)
+  refused : {c p : ℕ} → 10 ≤ c → c < 28 → Refusal d o c p → LookupSays d o q (refusalWords c p)
 
 -- of a name call: the dictionary's bytes from start to end are q
 pub data Spelled (d q : List ℕ) : List ℕ → Type 0 where
@@ -41,8 +41,8 @@ pub data Spelled (d q : List ℕ) : List ℕ → Type 0 where
 
 pub data ListSays (d o words : List ℕ) : List ℕ → Type 0 where
   listed : {n v e : ℕ} → Listed d o words n v e → ListSays d o words (0 ∷ n ∷ 0 ∷ v ∷ e ∷ 0 ∷ [])
-  no-room : NoRoom d o words → ListSays d o words (41 ∷ 0 ∷ 0 ∷ 0 ∷ 0 ∷ 0 ∷ [])
-  refused : {c p : ℕ} → 10 ≤ c → c < 28 → Refusal d o c p → ListSays d o words (c ∷ 0 ∷ 0 ∷ 0 ∷ 0 ∷ p ∷ [])
+  no-room : NoRoom d o words → ListSays d o words (refusalWords 41 0)
+  refused : {c p : ℕ} → 10 ≤ c → c < 28 → Refusal d o c p → ListSays d o words (refusalWords c p)
 
 -- WHAT A CALL TELLS
 

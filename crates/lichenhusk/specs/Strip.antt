@@ -9,7 +9,7 @@ use Rattle.metadata.specs.Dictionary as dictionary
 use Rattle.object.specs.Object as object
 use Rattle.lookup.specs.ByName as by-name
 use Rattle.listing.specs.Words as listing
-use Rattle.words.specs.Six.{wordsOf, lookupShape, layerShape, dictionaryShape, nameShape, bytesOfWords, stripBytes}
+use Rattle.words.specs.Shapes.{wordsOf, lookupShape, layerShape, dictionaryShape, nameShape, bytesOfWords, stripBytes}
 
 -- THE WORDS OF EACH CALL
 

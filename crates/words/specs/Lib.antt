@@ -1,2 +1,2 @@
-pub mod Six
+pub mod Shapes
 pub mod Steps

@@ -4,7 +4,7 @@ use mathlib.Core.List.{List, [], _∷_, _++_}
 use Prim.Native.Nat.{ℕ}
 use lib.ListN.{drop}
 use Rattle.words.specs.declared.Words.{Words}
-use Rattle.words.specs.Six.{bytesOfWords, stripBytes}
+use Rattle.words.specs.Shapes.{bytesOfWords, stripBytes}
 
 abbrev pub listOf : Words → List ℕ
 listOf w = w .code ∷ w .number ∷ w .id ∷ w .start ∷ w .end ∷ w .place ∷ []

@@ -3,12 +3,11 @@ ghost use mathlib.Core.Path.{_≡_};
 ghost use mathlib.Core.List.{[], _∷_};
 ghost use Prim.Native.Nat.{_≤_};
 ghost use lib.ListN.{length};
-ghost use Rattle.rules.specs.Rules.{refuse};
-ghost use Rattle.metadata.specs.Answers.{refused as dictionaryRefused, verdictNumbers, entryNumbers};
-ghost use Rattle.object.specs.Answers.{refused as objectRefused, verdictNumbers as layerNumbers};
+ghost use Rattle.metadata.specs.Answers.{refusalNumber as dictionaryNumber, refusalPlace as dictionaryPlace, verdictNumbers, entryNumbers};
+ghost use Rattle.object.specs.Answers.{refusalNumber as objectNumber, refusalPlace as objectPlace, verdictNumbers as layerNumbers};
 ghost use Rattle.lookup.specs.Answers.{lookupNumbers};
 ghost use Rattle.listing.specs.Answers.{listingNumbers};
-ghost use Rattle.words.specs.Six.{wordsOf, lookupShape, layerShape, dictionaryShape, nameShape, stripBytes};
+ghost use Rattle.words.specs.Shapes.{wordsOf, lookupShape, layerShape, dictionaryShape, nameShape, refusalWords, stripBytes};
 ghost use Rattle.words.specs.Steps.{listOf, Wrote};
 
 // The six numbers of a strip.
@@ -22,7 +21,7 @@ pub struct Words {
 }
 
 fn refusal(code: u32, place: usize) -> Words
-    ensures { λ r. ⌜ listOf r ≡ wordsOf layerShape (refuse code place) ⌝ }
+    ensures { λ r. ⌜ listOf r ≡ refusalWords code place ⌝ }
 {
     Words {
         code,
@@ -49,7 +48,7 @@ fn answer(number: usize, id: usize, start: usize, end: usize) -> Words
 
 // Refusals 10 to 19.
 fn of_dictionary_refusal(r: metadata::Refusal) -> Words
-    ensures { λ w. ⌜ listOf w ≡ wordsOf layerShape (dictionaryRefused r) ⌝ }
+    ensures { λ w. ⌜ listOf w ≡ refusalWords (dictionaryNumber r) (dictionaryPlace r) ⌝ }
 {
     match r {
         metadata::Refusal::TooLong => refusal(10, 0),
@@ -67,7 +66,7 @@ fn of_dictionary_refusal(r: metadata::Refusal) -> Words
 
 // Refusals 20 to 27, and the dictionary's.
 fn of_object_refusal(r: object::Refusal) -> Words
-    ensures { λ w. ⌜ listOf w ≡ wordsOf layerShape (objectRefused r) ⌝ }
+    ensures { λ w. ⌜ listOf w ≡ refusalWords (objectNumber r) (objectPlace r) ⌝ }
 {
     match r {
         object::Refusal::Dictionary(d) => of_dictionary_refusal(d),

@@ -3,7 +3,7 @@ use mathlib.Core.Path.{ap, _∙_}
 use native.Mathlib.Omega.{arith}
 use borrow.Author.Needs.{needs}
 use Rattle.metadata.specs.Dictionary.{nameAt}
-use Rattle.words.specs.Six.{nameShape}
+use Rattle.words.specs.Shapes.{nameShape}
 use Rattle.lichenhusk.specs.Host.{wordsIn}
 use Rattle.lichenhusk.proofs.Carries.{carried}
 use Rattle.lichenhusk.proofs.Tells.{name-said}

@@ -1,7 +1,7 @@
 -- `words::write` meets its contract: six words are set, one after another. Assumes nothing.
 use Rattle.rules.proofs.Prelude.{refl, _∙_, needs, sets-eq}
 use Rattle.width.specs.Width.{bytesOf}
-use Rattle.words.specs.Six.{bytesOfWords}
+use Rattle.words.specs.Shapes.{bytesOfWords}
 use Rattle.words.specs.Steps.{listOf}
 use Rattle.words.proofs.write.Statement.{statement}
 use Rattle.words.proofs.write.Tie as tie

@@ -40,6 +40,10 @@ dictionaryShape = record { number = value 0; id = unused; start = unused; end = 
 abbrev pub nameShape : Shape
 nameShape = record { number = unused; id = unused; start = value 0; end = value 1 }
 
+-- A REFUSAL, or absence, has no values: four zeros between code and place, whatever was called
+abbrev pub refusalWords : (code place : ℕ) → List ℕ
+refusalWords code place = code ∷ 0 ∷ 0 ∷ 0 ∷ 0 ∷ place ∷ []
+
 -- THE BYTES: each word is a little-endian u32
 unfoldable pub bytesOfWords : List ℕ → List ℕ
 bytesOfWords [] = []
