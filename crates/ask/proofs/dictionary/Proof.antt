@@ -14,10 +14,7 @@ pub dictionary-spec : {M : Type 1} → statement M
 dictionary-spec =
     tie.close
     (tie.spec
-    (λ c. search needs)  -- slice-aggregate-lichenhusk-dictionary
-    (λ c κs. search needs)  -- lichenhusk-dictionary-requires
-    (λ c. search needs)  -- slice-aggregate-read
-    (λ c κs. search needs)  -- read-requires
+    (λ c. search needs) (λ c κs. search needs) (λ c. search needs) (λ c κs. search needs)
     (λ c. let a = c .before .before .before .before .before .before .args in
     c .read .ensures ∙ ap wordsIn (c .before .before .before .lichenhusk-dictionary .ensures .leaves)
     ∙ carried dictionaryShape _ (omega arith) (verdict (a .dict .now))

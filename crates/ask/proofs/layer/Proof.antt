@@ -14,10 +14,7 @@ pub layer-spec : {M : Type 1} → statement M
 layer-spec =
     tie.close
     (tie.spec
-    (λ c. search needs)  -- slice-aggregate-lichenhusk-layer
-    (λ c κs. search needs)  -- lichenhusk-layer-requires
-    (λ c. search needs)  -- slice-aggregate-read
-    (λ c κs. search needs)  -- read-requires
+    (λ c. search needs) (λ c κs. search needs) (λ c. search needs) (λ c κs. search needs)
     (λ c. let a = c .before .before .before .before .before .before .before .args in
     c .read .ensures ∙ ap wordsIn (c .before .before .before .lichenhusk-layer .ensures .leaves)
     ∙ carried layerShape _ (omega arith) (verdict (a .dict .now) (a .object .now))

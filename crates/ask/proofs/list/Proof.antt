@@ -16,11 +16,7 @@ unfolding listAfter
 list-spec =
     tie.close
     (tie.spec
-    (λ c. search needs)  -- slice-aggregate-lichenhusk-list
-    (λ c κs. search needs)  -- lichenhusk-list-requires
-    (λ c. search needs)  -- slice-aggregate-read
-    (λ c κs. search needs)  -- read-requires
-    (λ c. search needs)  -- same-length
+    (λ c. search needs) (λ c κs. search needs) (λ c. search needs) (λ c κs. search needs) (λ c. search needs)
     (λ c. let a = c .before .before .before .before .before .before .before .before .before .before .before .args in
     let told = c .before .before .before .before .before .lichenhusk-list .ensures in (
       c .read .ensures ∙ ap wordsIn (told .strip-left .leaves)

@@ -14,10 +14,7 @@ pub lookup-spec : {M : Type 1} → statement M
 lookup-spec =
     tie.close
     (tie.spec
-    (λ c. search needs)  -- slice-aggregate-lichenhusk-lookup
-    (λ c κs. search needs)  -- lichenhusk-lookup-requires
-    (λ c. search needs)  -- slice-aggregate-read
-    (λ c κs. search needs)  -- read-requires
+    (λ c. search needs) (λ c κs. search needs) (λ c. search needs) (λ c κs. search needs)
     (λ c. let a = c .before .before .before .before .before .before .before .before .args in
     c .read .ensures ∙ ap wordsIn (c .before .before .before .lichenhusk-lookup .ensures .leaves)
     ∙ carried lookupShape _ (omega arith) (lookup (a .dict .now) (a .object .now) (a .name .now))

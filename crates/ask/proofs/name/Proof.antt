@@ -14,10 +14,7 @@ pub name-spec : {M : Type 1} → statement M
 name-spec =
     tie.close
     (tie.spec
-    (λ c. search needs)  -- slice-aggregate-lichenhusk-name
-    (λ c κs. search needs)  -- lichenhusk-name-requires
-    (λ c. search needs)  -- slice-aggregate-read
-    (λ c κs. search needs)  -- read-requires
+    (λ c. search needs) (λ c κs. search needs) (λ c. search needs) (λ c κs. search needs)
     (λ c. let a = c .before .before .before .before .before .before .args in
     c .read .ensures ∙ ap wordsIn (c .before .before .before .lichenhusk-name .ensures .leaves)
     ∙ carried nameShape _ (omega arith) (nameAt (a .dict .now) (a .entry))
