@@ -132,16 +132,16 @@ pub fn check_object(dict: &[u8], object: &[u8]) {
 }
 
 // The part of `s` that an answer gives.
-fn quoted_part(s: &[u8], a: Answer) {
+fn part_of(s: &[u8], a: Answer) -> &[u8] {
     let start = a.start;
     let end = a.end;
     if s.len() < end {
-        return;
+        return &s[0..0];
     }
     if end < start {
-        return;
+        return &s[0..0];
     }
-    quoted(&s[start..end]);
+    &s[start..end]
 }
 
 pub fn name(dict: &[u8], entry: usize) {
@@ -154,7 +154,7 @@ pub fn name(dict: &[u8], entry: usize) {
     say(b" is at bytes ", a.start);
     say(b" to ", a.end);
     tell(b": ");
-    quoted_part(dict, a);
+    quoted(part_of(dict, a));
     tell(b"\n");
 }
 
@@ -187,7 +187,7 @@ pub fn find(dict: &[u8], object: &[u8], name: &[u8]) {
     say(b" of the dictionary, its value from byte ", a.start);
     say(b" to byte ", a.end);
     tell(b":");
-    start_of(lookup::child(dict, object, name));
+    start_of(part_of(object, a));
     tell(b"\n");
 }
 
