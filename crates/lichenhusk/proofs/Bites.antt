@@ -14,7 +14,7 @@ use Rattle.lookup.specs.Promises.{GetPromise, ChildPromise}
 use Rattle.lookup.proofs.Pinned.{get-pinned}
 use Rattle.listing.specs.declared.Listing.{Listing}
 use Rattle.listing.specs.Promises.{ListPromise}
-use Rattle.lichenhusk.specs.Worked.{Told, D, P, flow, roll}
+use Rattle.lichenhusk.specs.Worked.{Told, D, P, alone, flow, roll}
 use Rattle.lichenhusk.specs.Worked.Told.{leaves}
 use Rattle.lichenhusk.proofs.Worked.{worked}
 
@@ -28,10 +28,6 @@ none = 0x01 ∷ 0x00 ∷ 0x00 ∷ []
 
 abbrev two : List ℕ
 two = 0x01 ∷ 0x02 ∷ 0x00 ∷ 0x01 ∷ 0x02 ∷ 0x61 ∷ 0x61 ∷ []
-
--- an object of one field, "roll", whose id is 1
-abbrev alone : List ℕ
-alone = 0x02 ∷ 0x01 ∷ 0x01 ∷ 0x00 ∷ 0x01 ∷ 0x0C ∷ []
 
 module _ (check : List ℕ → Verdict) (meets : (d : List ℕ) → CheckPromise d (check d)) where
   -- one that always says 13

@@ -32,10 +32,12 @@ module _ (shape : Shape) where
   pub first-is : (x : Answer) → getD (wordsOf shape x) 0 0 ≡ codeOf x
   first-is (gives c v p) = refl
 
-  pub carried : (strip : List ℕ) → stripBytes ≤ length strip → (x : Answer) → Fits (wordsOf shape x) → wordsIn (stripAfter strip (wordsOf shape x)) ≡ wordsOf shape x
-  carried strip h (gives c v p) f =
+  -- what is left in a strip that is long enough is read back
+  pub carried : (x : Answer) {strip : List ℕ} {code : ℕ} {after : List ℕ} → Left strip (wordsOf shape x) code after → stripBytes ≤ length strip
+      → Fits (wordsOf shape x) → wordsIn after ≡ wordsOf shape x
+  carried (gives c v p) {strip = strip} left h f =
       let back = reads-back strip (wordsOf shape (gives c v p)) h f in
-      rw (back 0 (omega arith), back 1 (omega arith), back 2 (omega arith), back 3 (omega arith), back 4 (omega arith), back 5 (omega arith))
+      rw (left .leaves, back 0 (omega arith), back 1 (omega arith), back 2 (omega arith), back 3 (omega arith), back 4 (omega arith), back 5 (omega arith))
 
 -- WHAT A HOST READS
 
@@ -55,7 +57,7 @@ module _ (Says : List ℕ → Type 0) (shape : Shape) (x : Answer) (strip : List
   unfolding returned
   written h (fits, m, is) =
       let c : code ≡ getD (wordsOf shape x) 0 0 = left .returns ∙ rw (le-ltb (length strip) stripBytes h) in
-      let back : wordsIn after ≡ wordsOf shape x = rw (left .leaves) (carried shape strip h x fits) in
+      let back = carried shape x left h fits in
       record { no-strip = (λ w. absurd (m (sym c ∙ w)), λ w. absurd (omega arith)); says = λ _. (ap (λ l. getD l 0 0) back ∙ sym c, rw back is) }
 
   pub tells : Said Says (wordsOf shape x) → Tells Says strip code after

@@ -28,7 +28,7 @@ module _ (strip : List ℕ) (enough : stripBytes ≤ length strip) {code : ℕ} 
   exactly : (Says : List ℕ → Type 0) (shape : Shape) (x : Answer) → Said Says (wordsOf shape x) → ((words : List ℕ) → Says words → wordsOf shape x ≡ words)
       → Left strip (wordsOf shape x) code after → (words : List ℕ) → (wordsIn after ≡ words) ↔ Says words
   exactly Says shape x said only left words =
-      let read : wordsIn after ≡ wordsOf shape x = rw (left .leaves) (carried shape strip enough x (said .0)) in
+      let read = carried shape x left enough (said .0) in
       (λ e. rw (sym read ∙ e) at (said .2), λ s. read ∙ only words s)
 
   -- THE THEOREMS

@@ -1,5 +1,5 @@
--- Lookup by name and the child view (document 01, "Answers" and "Child view"): d is the dictionary's bytes, o the object's, q the query.
--- Assumes nothing.
+-- Lookup by name and the child view (document 01, "Answers" and "Child view"; the id is request c) of document 02): d is the dictionary's
+-- bytes, o the object's, q the query. Assumes nothing.
 use mathlib.Core.List.{List, [], _∷_}
 use Prim.Native.Nat.{ℕ, _+_}
 use lib.ListN.{getD}

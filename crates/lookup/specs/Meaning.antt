@@ -1,4 +1,5 @@
--- What the lookup's answers say, in document 01's words. proofs/Found.antt shows that the lookup of ByName.antt says the same. Assumes nothing.
+-- What the lookup's answers say, in the words of document 01 and, of the id, request c) of document 02. proofs/Found.antt shows that the lookup
+-- of ByName.antt says the same. Assumes nothing.
 use mathlib.Core.Path.{_≡_}
 use mathlib.Core.List.{List, [], _∷_}
 use Prim.Native.Nat.{ℕ, _+_, _<_}

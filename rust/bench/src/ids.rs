@@ -13,13 +13,12 @@ const TAKEN: [&str; 4] = ["1 field", "16 fields", "255 fields", "4,000 names, 1 
 
 /// Every line of the table.
 pub fn taken() -> impl Iterator<Item = Row> {
-    let label = |row: &Row| {
-        row.label
-            .rsplit_once(", ")
-            .map(|(kind, _)| kind.to_string())
-    };
-    let is_taken = move |row: &Row| label(row).is_some_and(|kind| TAKEN.contains(&&*kind));
     rows().into_iter().filter(is_taken)
+}
+
+fn is_taken(row: &Row) -> bool {
+    let kind = row.label.rsplit_once(", ").map(|(kind, _)| kind);
+    kind.is_some_and(|kind| TAKEN.contains(&kind))
 }
 
 /// Nanoseconds by one call, by two, and by the Rust; of each name each finds the same id.

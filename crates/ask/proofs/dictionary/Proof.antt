@@ -1,10 +1,9 @@
 -- `ask::dictionary` meets its contract: the strip carries the six numbers whole. Assumes nothing.
-use mathlib.Core.Path.{ap, _∙_}
+use mathlib.Core.Path.{_∙_}
 use native.Mathlib.Omega.{arith}
 use borrow.Author.Needs.{needs}
 use Rattle.metadata.specs.Dictionary.{verdict}
 use Rattle.words.specs.Shapes.{dictionaryShape}
-use Rattle.lichenhusk.specs.Host.{wordsIn}
 use Rattle.lichenhusk.proofs.Carries.{carried}
 use Rattle.lichenhusk.proofs.Tells.{dictionary-said}
 use Rattle.ask.proofs.dictionary.Statement.{statement}
@@ -16,6 +15,5 @@ dictionary-spec =
     (tie.spec
     (λ c. search needs) (λ c κs. search needs) (λ c. search needs) (λ c κs. search needs)
     (λ c. let a = c .before .before .before .before .before .before .args in
-    c .read .ensures ∙ ap wordsIn (c .before .before .before .lichenhusk-dictionary .ensures .leaves)
-    ∙ carried dictionaryShape _ (omega arith) (verdict (a .dict .now))
-    (dictionary-said (a .dict .now) .0)))  -- returns
+    let said = dictionary-said (a .dict .now) in
+    c .read .ensures ∙ carried dictionaryShape (verdict (a .dict .now)) (c .before .before .before .lichenhusk-dictionary .ensures) (omega arith) (said .0)))  -- returns

@@ -1,10 +1,9 @@
 -- `ask::lookup` meets its contract: the strip carries the six numbers whole. Assumes nothing.
-use mathlib.Core.Path.{ap, _∙_}
+use mathlib.Core.Path.{_∙_}
 use native.Mathlib.Omega.{arith}
 use borrow.Author.Needs.{needs}
 use Rattle.lookup.specs.ByName.{lookup}
 use Rattle.words.specs.Shapes.{lookupShape}
-use Rattle.lichenhusk.specs.Host.{wordsIn}
 use Rattle.lichenhusk.proofs.Carries.{carried}
 use Rattle.lichenhusk.proofs.Tells.{lookup-said}
 use Rattle.ask.proofs.lookup.Statement.{statement}
@@ -16,6 +15,5 @@ lookup-spec =
     (tie.spec
     (λ c. search needs) (λ c κs. search needs) (λ c. search needs) (λ c κs. search needs)
     (λ c. let a = c .before .before .before .before .before .before .before .before .args in
-    c .read .ensures ∙ ap wordsIn (c .before .before .before .lichenhusk-lookup .ensures .leaves)
-    ∙ carried lookupShape _ (omega arith) (lookup (a .dict .now) (a .object .now) (a .name .now))
-    (lookup-said (a .dict .now) (a .object .now) (a .name .now) .0)))  -- returns
+    let said = lookup-said (a .dict .now) (a .object .now) (a .name .now) in
+    c .read .ensures ∙ carried lookupShape (lookup (a .dict .now) (a .object .now) (a .name .now)) (c .before .before .before .lichenhusk-lookup .ensures) (omega arith) (said .0)))  -- returns

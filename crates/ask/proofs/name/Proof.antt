@@ -1,10 +1,9 @@
 -- `ask::name` meets its contract: the strip carries the six numbers whole. Assumes nothing.
-use mathlib.Core.Path.{ap, _∙_}
+use mathlib.Core.Path.{_∙_}
 use native.Mathlib.Omega.{arith}
 use borrow.Author.Needs.{needs}
 use Rattle.metadata.specs.Dictionary.{nameAt}
 use Rattle.words.specs.Shapes.{nameShape}
-use Rattle.lichenhusk.specs.Host.{wordsIn}
 use Rattle.lichenhusk.proofs.Carries.{carried}
 use Rattle.lichenhusk.proofs.Tells.{name-said}
 use Rattle.ask.proofs.name.Statement.{statement}
@@ -16,6 +15,5 @@ name-spec =
     (tie.spec
     (λ c. search needs) (λ c κs. search needs) (λ c. search needs) (λ c κs. search needs)
     (λ c. let a = c .before .before .before .before .before .before .args in
-    c .read .ensures ∙ ap wordsIn (c .before .before .before .lichenhusk-name .ensures .leaves)
-    ∙ carried nameShape _ (omega arith) (nameAt (a .dict .now) (a .entry))
-    (name-said (a .dict .now) (a .entry) .0)))  -- returns
+    let said = name-said (a .dict .now) (a .entry) in
+    c .read .ensures ∙ carried nameShape (nameAt (a .dict .now) (a .entry)) (c .before .before .before .lichenhusk-name .ensures) (omega arith) (said .0)))  -- returns
