@@ -18,7 +18,7 @@
  *     of some variable.
  *   - A buffer that is written (strip, words, room) shares no memory with
  *     another buffer of the same call.
- *   - words is aligned as a uint32_t is.
+ *   - words and ends are aligned as a uint32_t is.
  *
  * THE STRIP. The answer goes to the first LICHENHUSK_STRIP_BYTES of a buffer of
  * yours: six numbers of 32 bits, each with its lowest byte first, whatever the
@@ -99,6 +99,8 @@ enum {
     LICHENHUSK_STRIP_BYTES = 24,
     /* The words of a listing for each field: id, start, span. */
     LICHENHUSK_WORDS_PER_FIELD = 3,
+    /* The words for each of many names: code, field, id, start, end. */
+    LICHENHUSK_WORDS_PER_NAME = 5,
     /* The bytes of the empty dictionary. */
     LICHENHUSK_EMPTY_BYTES = 3
 };
@@ -116,9 +118,9 @@ enum lichenhusk_word_index {
 /*
  * Every number that is answered. "The place" is the strip's last word; where
  * nothing is said of it, it is 0. Of several reasons to refuse, the answer is
- * the first in the order in which the bytes are checked: the dictionary before
- * the object, a header before what it describes, and then entry by entry and
- * field by field.
+ * the first in the order in which the bytes are checked: the ends of names
+ * before the dictionary, the dictionary before the object, a header before what
+ * it describes, and then entry by entry and field by field.
  */
 enum lichenhusk_code {
     /* Accepted, found, or written. */
@@ -177,10 +179,16 @@ enum lichenhusk_code {
 
     /* The strip is shorter than LICHENHUSK_STRIP_BYTES. Nothing is written. */
     LICHENHUSK_STRIP_TOO_SHORT = 40,
-    /* Fewer than three words of room for each field. No word is written. */
+    /* Fewer than three words of room for each field of a listing, or than five
+     * for each of many names. No word is written. */
     LICHENHUSK_WORDS_TOO_FEW = 41,
     /* Fewer than 3 bytes of room for the empty dictionary. Nothing is written. */
-    LICHENHUSK_ROOM_TOO_SMALL = 42
+    LICHENHUSK_ROOM_TOO_SMALL = 42,
+
+    /* Of many names, one has an end that falls below where the name begins, or
+     * that passes the run of names. The place: the name, counted from 0 (of more
+     * than 4,294,967,296 ends, that number's low 32 bits). */
+    LICHENHUSK_NAMES_END = 45
 };
 
 /* A word of a strip that an answer was written to. */
@@ -207,6 +215,28 @@ uint32_t lichenhusk_lookup(const uint8_t *dict, size_t dict_len,
                            const uint8_t *object, size_t object_len,
                            const uint8_t *name, size_t name_len,
                            uint8_t *strip, size_t strip_len);
+
+/*
+ * Checks the dictionary and one layer of the object once, and looks for the
+ * fields of many names. The names are a run of bytes, one after another; ends[k]
+ * is where name k ends, counted from the run's first byte. The first name begins
+ * at 0, and each other one where the one before it ends: "flow" and "roll" are
+ * the run "flowroll" with the ends 4 and 8. Bytes of the run after the last end
+ * are ignored. ends_len and words_len count words.
+ *
+ * 0: the strip is lichenhusk_layer's, and words has five words for each name, in
+ *    the order of the names: what lichenhusk_lookup answers to it, that is 0,
+ *    field, id, start and end, or 1 and four times 0. Words after these stay as
+ *    they are; with no names, that is every word.
+ * Otherwise a refusal, which leaves all words: 45, then 10 to 19, 20 to 27, and
+ * 41 after every other; or 40.
+ */
+uint32_t lichenhusk_lookup_all(const uint8_t *dict, size_t dict_len,
+                               const uint8_t *object, size_t object_len,
+                               const uint8_t *names, size_t names_len,
+                               const uint32_t *ends, size_t ends_len,
+                               uint32_t *words, size_t words_len,
+                               uint8_t *strip, size_t strip_len);
 
 /*
  * Checks the dictionary.

@@ -5,10 +5,10 @@ use Rattle.metadata.specs.Limits.{limit}
 use Rattle.metadata.proofs.Appended.{appended, name-appended}
 use Rattle.object.proofs.Appended.{Settled, verdict-appended}
 use Rattle.lookup.proofs.Appended.{lookup-appended}
-use Rattle.listing.specs.Words.{listed}
+use Rattle.listing.specs.Words.{listed, wordsAfter as filled}
 use Rattle.listing.proofs.Appended.{listed-appended, words-appended}
 use Rattle.words.specs.Shapes.{Shape, wordsOf, lookupShape, layerShape, dictionaryShape, nameShape, stripBytes}
-use Rattle.lichenhusk.specs.Strip.{returned, stripAfter, listAfter}
+use Rattle.lichenhusk.specs.Strip.{returned, stripAfter, filledAfter}
 use Rattle.lichenhusk.specs.Promises.{Left, DictionaryPromise, NamePromise, LayerPromise, LookupPromise, ListPromise}
 use Rattle.lichenhusk.proofs.Carries.{first-is}
 
@@ -38,13 +38,13 @@ module _ (d t strip : List ℕ) (fits : length (d ++ t) ≤ limit) {code : ℕ} 
     lookup-kept q = keeps lookupShape strip _ _ (λ c. lookup-appended d t o u q fits object-fits (rw c at settled))
 
     pub list-kept : (w wordsAfter : List ℕ) → ListPromise d o w strip code after wordsAfter → ListPromise (d ++ t) (o ++ u) w strip code after wordsAfter
-    unfolding listAfter returned
+    unfolding filledAfter returned
     list-kept w wordsAfter p = record {
       strip-left = keeps layerShape strip _ _ (λ c. listed-appended d t o u w fits object-fits (rw c at settled)) (p .strip-left);
       words-left = p .words-left ∙ go (decLt (length strip) stripBytes);
     }
       where
-        go : Dec (length strip < stripBytes) → listAfter d o w strip ≡ listAfter (d ++ t) (o ++ u) w strip
+        go : Dec (length strip < stripBytes) → filledAfter strip w (filled d o w) ≡ filledAfter strip w (filled (d ++ t) (o ++ u) w)
         go (yes h) = rw (lt-ltb (length strip) stripBytes h)
         go (no h) =
             let long = le-ltb (length strip) stripBytes (omega arith) in

@@ -10,7 +10,7 @@ use Rattle.lookup.proofs.Cut as lookup-cuts
 use Rattle.listing.specs.Words.{wordsAfter}
 use Rattle.listing.proofs.Cut as listing-cuts
 use Rattle.words.specs.Shapes.{Shape, wordsOf, lookupShape, layerShape, dictionaryShape, nameShape, refusalWords, stripBytes}
-use Rattle.lichenhusk.specs.Strip.{listAfter}
+use Rattle.lichenhusk.specs.Strip.{filledAfter}
 use Rattle.lichenhusk.specs.Promises.{Left, DictionaryPromise, NamePromise, LayerPromise, LookupPromise, ListPromise}
 
 -- the words of one of two refusals at place 0
@@ -23,9 +23,9 @@ of-words : {a b : ℕ} (shape : Shape) (strip : List ℕ) (x : Answer) {code : �
 of-words shape strip x r l = ⊎-elim (λ e. inl (rw e at l)) (λ e. inr (rw e at l)) r
 
 -- words that the listing leaves stay, whatever the strip
-as-lent : (d o w strip : List ℕ) → wordsAfter d o w ≡ w → listAfter d o w strip ≡ w
-unfolding listAfter
-as-lent d o w strip e = rw e (either (ltb (length strip) stripBytes))
+as-lent : (w strip : List ℕ) {filled : List ℕ} → filled ≡ w → filledAfter strip w filled ≡ w
+unfolding filledAfter
+as-lent w strip e = rw e (either (ltb (length strip) stripBytes))
   where
     either : (b : Bool) → cond b w w ≡ w
     either true = refl
@@ -48,7 +48,7 @@ module _ (strip : List ℕ) (m : ℕ) {code : ℕ} {after : List ℕ} where
 
     pub list-cut : (o w left : List ℕ) → ListPromise (take m d) o w strip code after left → LeftAs 11 13 strip code after × (left ≡ w)
     list-cut o w left p =
-        let c = listing-cuts.dictionary-cut d o w m n e accepted cut in (of-words layerShape strip _ (c .0) (p .strip-left), p .words-left ∙ as-lent _ o w strip (c .1))
+        let c = listing-cuts.dictionary-cut d o w m n e accepted cut in (of-words layerShape strip _ (c .0) (p .strip-left), p .words-left ∙ as-lent w strip (c .1))
 
   -- THE OBJECT CUT
   module _ (d o : List ℕ) (n v e : ℕ) (accepted : object.verdict d o ≡ accept (n ∷ v ∷ e ∷ [])) (cut : m < e) where
@@ -60,4 +60,4 @@ module _ (strip : List ℕ) (m : ℕ) {code : ℕ} {after : List ℕ} where
 
     pub list-object-cut : (w left : List ℕ) → ListPromise d (take m o) w strip code after left → LeftAs 21 23 strip code after × (left ≡ w)
     list-object-cut w left p =
-        let c = listing-cuts.object-cut d o w m n v e accepted cut in (of-words layerShape strip _ (c .0) (p .strip-left), p .words-left ∙ as-lent d _ w strip (c .1))
+        let c = listing-cuts.object-cut d o w m n v e accepted cut in (of-words layerShape strip _ (c .0) (p .strip-left), p .words-left ∙ as-lent w strip (c .1))

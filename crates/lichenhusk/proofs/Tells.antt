@@ -24,7 +24,7 @@ use Rattle.listing.proofs.Rows.{rows-length}
 use Rattle.listing.proofs.Listed.{id-word}
 use Rattle.listing.proofs.Lists as listing
 use Rattle.words.specs.Shapes.{wordsOf, lookupShape, layerShape, dictionaryShape, nameShape, stripBytes}
-use Rattle.lichenhusk.specs.Strip.{lookupWords, layerWords, listWords, verdictWords, nameAtWords, listAfter}
+use Rattle.lichenhusk.specs.Strip.{lookupWords, layerWords, listWords, verdictWords, nameAtWords, filledAfter}
 use Rattle.lichenhusk.specs.Promises.{DictionaryPromise, NamePromise, LayerPromise, LookupPromise, ListPromise, EmptyPromise}
 use Rattle.lichenhusk.specs.Host.{word, Tells, DictionarySays, NameSays, LayerSays, LookupSays, Spelled, ListSays, Fills, EmptyTells}
 use Rattle.lichenhusk.specs.Host.DictionarySays.{accepted, refused as dictionary-refused}
@@ -141,7 +141,7 @@ module _ (strip : List ℕ) (code : ℕ) (after : List ℕ) where
 
       -- and what it filled
       pub list-fills : Fills o w code after wordsAfter
-      unfolding listAfter
+      unfolding filledAfter
       list-fills = go (decLt (length strip) stripBytes)
         where
           by-case : {x : List ℕ} → ListSays d o w x → wordsAfter ≡ filled d o w

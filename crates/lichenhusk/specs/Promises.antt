@@ -5,7 +5,9 @@ use mathlib.Core.List.{List}
 use Prim.Native.Nat.{ℕ}
 use Rattle.rules.specs.Rules.{codeOf}
 use Rattle.metadata.specs.Dictionary.{emptied, roomAfter}
-use Rattle.lichenhusk.specs.Strip.{lookupWords, layerWords, listWords, verdictWords, nameAtWords, returned, stripAfter, listAfter}
+use Rattle.lookup.specs.Many.{rowsAfter}
+use Rattle.listing.specs.Words.{wordsAfter}
+use Rattle.lichenhusk.specs.Strip.{lookupWords, allWords, layerWords, listWords, verdictWords, nameAtWords, returned, stripAfter, filledAfter}
 
 -- of every call that fills a strip: the words of its answer
 pub record Left (strip words : List ℕ) (code : ℕ) (after : List ℕ) : Type 0 where
@@ -24,10 +26,16 @@ NamePromise d i strip = Left strip (nameAtWords d i)
 abbrev pub LayerPromise : List ℕ → List ℕ → List ℕ → ℕ → List ℕ → Type 0
 LayerPromise d o strip = Left strip (layerWords d o)
 
--- the listing, and its words after it
-pub record ListPromise (d o words strip : List ℕ) (code : ℕ) (after wordsAfter : List ℕ) : Type 0 where
-  pub strip-left : Left strip (listWords d o words) code after
-  pub words-left : wordsAfter ≡ listAfter d o words strip
+-- of a call that fills lent words, too: what they are filled with
+pub record Filled (strip words lent filled : List ℕ) (code : ℕ) (after lentAfter : List ℕ) : Type 0 where
+  pub strip-left : Left strip words code after
+  pub words-left : lentAfter ≡ filledAfter strip lent filled
+
+abbrev pub ListPromise : (d o words strip : List ℕ) → ℕ → List ℕ → List ℕ → Type 0
+ListPromise d o words strip = Filled strip (listWords d o words) words (wordsAfter d o words)
+
+abbrev pub AllPromise : (d o names ends words strip : List ℕ) → ℕ → List ℕ → List ℕ → Type 0
+AllPromise d o names ends words strip = Filled strip (allWords d o names ends words) words (rowsAfter d o names ends words)
 
 -- the empty dictionary, and its room after it
 pub record EmptyPromise (room : List ℕ) (code : ℕ) (after : List ℕ) : Type 0 where

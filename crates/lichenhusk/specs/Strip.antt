@@ -8,6 +8,7 @@ use lib.ListN.{length, drop, getD}
 use Rattle.metadata.specs.Dictionary as dictionary
 use Rattle.object.specs.Object as object
 use Rattle.lookup.specs.ByName as by-name
+use Rattle.lookup.specs.Many as many
 use Rattle.listing.specs.Words as listing
 use Rattle.words.specs.Shapes.{wordsOf, lookupShape, layerShape, dictionaryShape, nameShape, bytesOfWords, stripBytes}
 
@@ -15,6 +16,9 @@ use Rattle.words.specs.Shapes.{wordsOf, lookupShape, layerShape, dictionaryShap
 
 abbrev pub lookupWords : List ℕ → List ℕ → List ℕ → List ℕ
 lookupWords d o q = wordsOf lookupShape (by-name.lookup d o q)
+
+abbrev pub allWords : (d o names ends words : List ℕ) → List ℕ
+allWords d o names ends words = wordsOf layerShape (many.lookups d o names ends words)
 
 abbrev pub layerWords : List ℕ → List ℕ → List ℕ
 layerWords d o = wordsOf layerShape (object.verdict d o)
@@ -36,6 +40,6 @@ returned strip words = cond (ltb (length strip) stripBytes) 40 (getD words 0 0)
 unfoldable pub stripAfter : List ℕ → List ℕ → List ℕ
 stripAfter strip words = cond (ltb (length strip) stripBytes) strip (bytesOfWords words ++ drop stripBytes strip)
 
--- and the listing's words: as lent with 40
-unfoldable pub listAfter : List ℕ → List ℕ → List ℕ → List ℕ → List ℕ
-listAfter d o words strip = cond (ltb (length strip) stripBytes) words (listing.wordsAfter d o words)
+-- and lent words that a call fills: as lent with 40
+unfoldable pub filledAfter : List ℕ → List ℕ → List ℕ → List ℕ
+filledAfter strip lent filled = cond (ltb (length strip) stripBytes) lent filled

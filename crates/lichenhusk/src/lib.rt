@@ -1,5 +1,5 @@
 // What a host calls through C: each answer as a strip of six little-endian u32 (include/lichenhusk.h).
-ghost use Rattle.lichenhusk.specs.Promises.{LookupPromise, DictionaryPromise, NamePromise, LayerPromise, ListPromise, EmptyPromise};
+ghost use Rattle.lichenhusk.specs.Promises.{LookupPromise, AllPromise, DictionaryPromise, NamePromise, LayerPromise, ListPromise, EmptyPromise};
 
 // The bytes of a strip, below which the answer is 40.
 pub const STRIP: usize = 24;
@@ -19,6 +19,25 @@ pub extern "C" fn lichenhusk_lookup(
     }
     let words = words::of_lookup(lookup::get(dict, object, name));
     words::write(strip, words)
+}
+
+// Lookup of many names at one check: as the layer, and five words a name.
+#[no_mangle]
+pub extern "C" fn lichenhusk_lookup_all(
+    dict: &[u8],
+    object: &[u8],
+    names: &[u8],
+    ends: &[u32],
+    words: &mut [u32],
+    strip: &mut [u8],
+) -> u32
+    ensures { λ r. ⌜ AllPromise (now (dict .entry)) (now (object .entry)) (now (names .entry)) (now (ends .entry)) (now (words .entry)) (now (strip .entry)) r (now (strip .exit)) (now (words .exit)) ⌝ }
+{
+    if strip.len() < STRIP {
+        return 40;
+    }
+    let six = words::of_lookups(lookup::get_all(dict, object, names, ends, words));
+    words::write(strip, six)
 }
 
 // Dictionary verdict: entry count, 0, 0, trimmed end.

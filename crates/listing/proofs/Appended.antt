@@ -1,12 +1,12 @@
 -- Bytes added after the dictionary, after the object or after both, each within the limit, change neither the listing nor its words, unless
 -- the answer was empty or short (11, 13, 21 or 23). Assumes nothing.
 use Rattle.rules.proofs.Prelude.{_≡_, refl, false, List, [], _∷_, _++_, ℕ, zero, suc, _+_, _*_, _≤_, _<_, arith, length, drop, Found, Stays, codeOf, first}
-use Rattle.rules.proofs.Prelude.{_otherwise_, _<?_, _⇒_at_, pass, stop, both-pass, same-stays, stays-then, stays-answer}
+use Rattle.rules.proofs.Prelude.{unlessRefused, each-same, _otherwise_, _<?_, _⇒_at_, pass, stop, both-pass, same-stays, stays-then, stays-answer}
 use Rattle.metadata.specs.Limits.{limit}
 use Rattle.object.specs.Object.{count, offset, start, checks, layer}
 use Rattle.object.proofs.Means.{good}
 use Rattle.object.proofs.Appended.{lifted, Settled, unlifted, counted, count-same, start-same, id-same, offset-same, layer-same, checks-kept}
-use Rattle.listing.specs.Words.{leastAbove, span, row, rows, listChecks, listed, unlessRefused, wordsAfter}
+use Rattle.listing.specs.Words.{leastAbove, span, row, rows, listChecks, listed, wordsAfter}
 
 -- equal numbers up to n: the same least above
 least-same : (f g : ℕ → ℕ) (x n : ℕ) → ((k : ℕ) → k < n → f k ≡ g k) → leastAbove f x n ≡ leastAbove g x n
@@ -22,10 +22,10 @@ module _ (o u : List ℕ) (h : start o ≤ length o) where
       (rw (least-same (offset (o ++ u)) (offset o) (offset o k) (count o + 1) (λ j q. offset-same o u h j (omega arith))))
 
   rows-same : (n : ℕ) → n ≤ count o → rows (o ++ u) n ≡ rows o n
-  unfolding rows row
-  rows-same zero p = refl
-  rows-same (suc n) p =
-      rw (rows-same n (omega arith), id-same o u h n (omega arith), start-same o u (counted o u h), offset-same o u h n (omega arith), span-same n (omega arith))
+  unfolding row
+  rows-same n p =
+      each-same (row (o ++ u)) (row o) n λ k q.
+      rw (id-same o u h k (omega arith), start-same o u (counted o u h), offset-same o u h k (omega arith), span-same k (omega arith))
 
 module _ (d t o u w : List ℕ) (dictionary-limit : length (d ++ t) ≤ limit) (object-limit : length (o ++ u) ≤ limit) where
   -- the last check, and the words of a listing that is not refused

@@ -1,24 +1,17 @@
 -- The words of a listing: three a field in field order, its id, its start and its span.
 -- The span runs to the least of the n + 1 offsets above the field's own, and is 0 if none is. Assumes nothing.
 use Rattle.rules.proofs.Prelude.{_≡_, refl, _∙_, _⊎_, inl, inr, Bool, true, false, cond, _&&_, _||_, List, _++_, ℕ, zero, suc, _+_, _-_, _*_, _≤_, _<_, decLt}
-use Rattle.rules.proofs.Prelude.{add-zero, arith, ltb-true, ltb-false, leb-true, leb-false, ltb, leb, getD, List·getD-append, getD-append-add, and-last}
+use Rattle.rules.proofs.Prelude.{add-zero, arith, ltb-true, ltb-false, leb-true, leb-false, ltb, leb, getD, and-last}
+use Rattle.rules.proofs.Rows.{row-word}
 use Rattle.object.specs.Object.{count, id, offset, start}
 use Rattle.listing.specs.Words.{leastAbove, span, row, rows}
-use Rattle.listing.proofs.Rows.{rows-length}
+use Rattle.listing.proofs.Rows.{row-three}
 
 -- THE WORDS OF A FIELD
 
 -- word j of field k
 word : (o : List ℕ) (n k j : ℕ) → k < n → j < 3 → getD (rows o n) (3 * k + j) 0 ≡ getD (row o k) j 0
-unfolding rows
-word o zero k j p q = absurd (omega arith)
-word o (suc n) k j p q = go (decLt k n) (λ w. word o n k j w q)
-  where
-    go : Dec (k < n) → (k < n → getD (rows o n) (3 * k + j) 0 ≡ getD (row o k) j 0) → getD (rows o n ++ row o n) (3 * k + j) 0 ≡ getD (row o k) j 0
-    go (yes w) r = List·getD-append (rows o n) (row o n) 0 (3 * k + j) (omega (arith, rows-length o n)) ∙ r w
-    go (no w) r =
-        let k-is : k ≡ n = omega arith in
-        rw (k-is, ← rows-length o n) (getD-append-add (rows o n) (row o n) j 0)
+word o = row-word (row o) 3 (row-three o)
 
 module _ (o : List ℕ) (n k : ℕ) (p : k < n) where
   pub id-word : getD (rows o n) (3 * k) 0 ≡ id o k

@@ -4,8 +4,7 @@ use mathlib.Core.List.{List, [], _∷_, _++_}
 use Prim.Native.Nat.{ℕ, zero, suc, _+_, _-_, _*_}
 use lib.Dec.{ltb, leb}
 use lib.ListN.{length, drop}
-use Rattle.rules.specs.Rules.{Answer, Found, first, _orElse_, _otherwise_}
-use Rattle.rules.specs.Rules.Found.{pass, stop}
+use Rattle.rules.specs.Rules.{Answer, Found, first, each, _orElse_, _otherwise_, unlessRefused}
 use Rattle.rules.specs.Rules.Rule.{_⇒_at_}
 use Rattle.rules.specs.Rules.Test.{_<?_}
 use Rattle.object.specs.Object.{count, id, offset, start, checks, layer}
@@ -27,9 +26,8 @@ span o k = leastAbove (offset o) (offset o k) (count o + 1) - offset o k
 unfoldable pub row : List ℕ → ℕ → List ℕ
 row o k = id o k ∷ (start o + offset o k) ∷ span o k ∷ []
 
-unfoldable pub rows : List ℕ → ℕ → List ℕ
-rows o zero = []
-rows o (suc n) = rows o n ++ row o n
+abbrev pub rows : List ℕ → ℕ → List ℕ
+rows o = each (row o)
 
 -- 41, listing room below three words a field, is checked last
 unfoldable pub listChecks : List ℕ → List ℕ → List ℕ → Found
@@ -39,9 +37,5 @@ unfoldable pub listed : List ℕ → List ℕ → List ℕ → Answer
 listed d o words = listChecks d o words otherwise layer o
 
 -- Words after these stay; any refusal leaves all
-abbrev pub unlessRefused : Found → List ℕ → List ℕ → List ℕ
-unlessRefused pass written kept = written
-unlessRefused (stop code place) written kept = kept
-
 unfoldable pub wordsAfter : List ℕ → List ℕ → List ℕ → List ℕ
 wordsAfter d o words = unlessRefused (listChecks d o words) (rows o (count o) ++ drop (3 * count o) words) words

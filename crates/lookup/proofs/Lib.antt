@@ -1,3 +1,5 @@
+pub mod FromAbove
+pub mod Rows
 pub mod Found
 pub mod Pinned
 pub mod Appended

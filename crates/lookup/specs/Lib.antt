@@ -1,4 +1,5 @@
 pub mod ByName
+pub mod Many
 pub mod Meaning
 pub mod Answers
 pub mod Promises

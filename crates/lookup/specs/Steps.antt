@@ -1,13 +1,17 @@
 -- What the steps of the lookup answer each other, in the words of ByName.antt. Assumes nothing.
 use mathlib.Core.Path.{_≡_}
-use mathlib.Core.List.{List}
-use Prim.Native.Nat.{ℕ, _≤_}
+use mathlib.Core.List.{List, [], _∷_}
+use Prim.Native.Nat.{ℕ, _+_, _≤_, _<_}
 use lib.ListN.{length}
+use Rattle.names.specs.Order.{Before}
+use Rattle.names.specs.Steps.{KeyOf}
+use Rattle.object.specs.Object.{count, offset, start, end, fieldName}
 use Rattle.names.specs.Search.{Sought}
 use Rattle.names.specs.Search.Sought.{nowhere, here}
 use Rattle.lookup.specs.declared.Search.{Search}
 use Rattle.lookup.specs.declared.Search.the-variants as search
 use Rattle.lookup.specs.declared.Place.{Place}
+use Rattle.lookup.specs.declared.Row.{Row}
 use Rattle.lookup.specs.ByName.{lookup, startOf, endOf}
 
 abbrev pub soughtOf : Search → Sought
@@ -20,3 +24,26 @@ pub record PlaceOf (d o q : List ℕ) (p : Place) : Type 0 where
   pub end-is : p .end ≡ endOf (lookup d o q)
   pub rises : p .start ≤ p .end
   pub inside : p .end ≤ length o
+
+-- all fields from `from` on come after the query
+abbrev pub AllAbove : (d o q : List ℕ) → ℕ → Type 0
+AllAbove d o q from = (k : ℕ) → from ≤ k → k < count o → Before q (fieldName d o k)
+
+-- and this one is the last that may be the query's, if there is a field
+pub record UpTo (d o q : List ℕ) (at : ℕ) : Type 0 where
+  pub inside : 0 < count o → at < count o
+  pub above : AllAbove d o q (at + 1)
+
+-- a step up was taken, or the name there has a key above the query's
+pub data Probed (name : List ℕ) (key at step : ℕ) : ℕ → Type 0 where
+  taken : Probed name key at step (at + step)
+  kept : {p : ℕ} → KeyOf name p → key < p → Probed name key at step at
+
+-- what was found is a field whose child lies in the object
+abbrev pub InLayer : List ℕ → Sought → Type 0
+InLayer o nowhere = Unit {0}
+InLayer o (here k) = (k < count o) × (start o + offset o k ≤ end o)
+
+-- a row's words
+abbrev pub wordsOf : Row → List ℕ
+wordsOf r = r .code ∷ r .field ∷ r .id ∷ r .start ∷ r .end ∷ []

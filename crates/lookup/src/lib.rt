@@ -1,12 +1,22 @@
-// Lookup by name over a checked object layer, and the child as a part of the object (object.rs: VariantObject::get).
+// Lookup by name over a checked object layer, of one name or of many, and the child as a part of the object (object.rs: VariantObject::get).
 ghost use mathlib.Core.Path.{_≡_};
-ghost use Prim.Native.Nat.{_+_, _≤_, _<_};
+ghost use mathlib.Core.Bool.{cond};
+ghost use mathlib.Core.List.{_++_};
+ghost use Prim.Native.Nat.{_+_, _*_, _≤_, _<_};
+ghost use lib.Dec.{ltb};
+ghost use lib.ListN.{length, drop};
+ghost use lib.Seq.{sets};
+ghost use Rattle.rules.specs.Rules.{each};
+ghost use Rattle.rules.specs.Rules.Found.{pass};
 ghost use Rattle.names.specs.Order.{compareOf};
 ghost use Rattle.names.specs.Search.{seek};
+ghost use Rattle.run.specs.Run.{checks as endChecks};
 ghost use Rattle.object.specs.Object.{count as countOf, offset as offsetOf, start as regionStart, end as trimmedEnd, fieldName};
 ghost use Rattle.object.specs.Steps.{LayerOf, Over, Opened};
-ghost use Rattle.lookup.specs.Promises.{GetPromise, ChildPromise};
-ghost use Rattle.lookup.specs.Steps.{soughtOf, PlaceOf};
+ghost use Rattle.lookup.specs.ByName.{found as foundAt, lookup};
+ghost use Rattle.lookup.specs.Many.{rowOf, row};
+ghost use Rattle.lookup.specs.Promises.{GetPromise, ChildPromise, GetAllPromise};
+ghost use Rattle.lookup.specs.Steps.{soughtOf, PlaceOf, AllAbove, UpTo, Probed, InLayer, wordsOf};
 use object::Layer;
 
 pub enum Lookup {
@@ -44,13 +54,20 @@ enum Search {
     At(usize),
 }
 
-// The field of that name, by halving (utils.rs: try_binary_search_range_by).
-fn find(dict: &[u8], h: metadata::Header, object: &[u8], l: Layer, name: &[u8]) -> Search
-    requires { ⌜ Opened (now dict) h (now object) l ⌝ }
+// The field of that name, by halving (utils.rs: try_binary_search_range_by), where those from `above` on are known to come after it.
+fn find(
+    dict: &[u8],
+    h: metadata::Header,
+    object: &[u8],
+    l: Layer,
+    name: &[u8],
+    above: usize,
+) -> Search
+    requires { ⌜ Opened (now dict) h (now object) l × (above ≤ countOf (now object)) × AllAbove (now dict) (now object) (now name) above ⌝ }
     ensures { λ r. ⌜ soughtOf r ≡ seek (fieldName (now (dict .entry)) (now (object .entry))) (now (name .entry)) (countOf (now (object .entry))) ⌝ }
 {
     let mut low = 0;
-    let mut high = l.count;
+    let mut high = above;
     while low < high {
         let middle = low + (high - low) / 2;
         let order = compare_field(dict, h, object, l, middle, name);
@@ -94,7 +111,7 @@ fn get_over(dict: &[u8], h: metadata::Header, object: &[u8], name: &[u8]) -> Loo
     match layer {
         object::Head::Refused(r) => Lookup::Refused(r),
         object::Head::Good(l) => {
-            let found = find(dict, h, object, l, name);
+            let found = find(dict, h, object, l, name, l.count);
             match found {
                 Search::Nowhere => Lookup::Absent,
                 Search::At(k) => {
@@ -148,4 +165,255 @@ pub fn child<'d, 'o, 'n>(dict: &'d [u8], object: &'o [u8], name: &'n [u8]) -> &'
     let a = place.start;
     let e = place.end;
     &object[a..e]
+}
+
+// `step` where the key p is not above the other, and 0 where it is. A branch would be guessed wrong as often as not; this takes none.
+fn climb(step: usize, key: usize, p: usize) -> usize
+    requires { ⌜ (key < 72057594037927936) × (p < 72057594037927936) ⌝ }
+    ensures { λ r. ⌜ r ≡ cond (ltb key p) 0 step ⌝ }
+{
+    step * ((names::KEYS + key - p) / names::KEYS)
+}
+
+// A step up from `at`, unless the key of the field there is above `key`.
+fn probe(
+    dict: &[u8],
+    h: metadata::Header,
+    object: &[u8],
+    l: Layer,
+    at: usize,
+    step: usize,
+    key: usize,
+) -> usize
+    requires { ⌜ Opened (now dict) h (now object) l × (at + step < countOf (now object)) × (key < 72057594037927936) ⌝ }
+    ensures { λ r. ⌜ Probed (fieldName (now (dict .entry)) (now (object .entry)) (at + step)) key at step r ⌝ }
+{
+    let id = object::id_at(object, l, at + step);
+    let field = metadata::span_of(dict, h, id);
+    at + climb(step, key, names::key(dict, field.start, field.end))
+}
+
+// For each of two names a field after which all come after it.
+struct Two {
+    first: usize,
+    second: usize,
+}
+
+// Two names at once, by their keys: neither search waits for the other's loads, and no branch depends on what is read.
+fn narrow(
+    dict: &[u8],
+    h: metadata::Header,
+    object: &[u8],
+    l: Layer,
+    first: &[u8],
+    second: &[u8],
+) -> Two
+    requires { ⌜ Opened (now dict) h (now object) l ⌝ }
+    ensures { λ r. ⌜ UpTo (now (dict .entry)) (now (object .entry)) (now (first .entry)) (r .first) × UpTo (now (dict .entry)) (now (object .entry)) (now (second .entry)) (r .second) ⌝ }
+{
+    let p = names::key(first, 0, first.len());
+    let q = names::key(second, 0, second.len());
+    let mut at = 0;
+    let mut other = 0;
+    let mut size = l.count;
+    while 1 < size {
+        let half = size / 2;
+        at = probe(dict, h, object, l, at, half, p);
+        other = probe(dict, h, object, l, other, half, q);
+        size -= half;
+    }
+    Two {
+        first: at,
+        second: other,
+    }
+}
+
+// The field of that name, which is this one or, where names have their first eight bytes in common, one before it.
+fn settle(
+    dict: &[u8],
+    h: metadata::Header,
+    object: &[u8],
+    l: Layer,
+    name: &[u8],
+    at: usize,
+) -> Search
+    requires { ⌜ Opened (now dict) h (now object) l × UpTo (now dict) (now object) (now name) at ⌝ }
+    ensures { λ r. ⌜ soughtOf r ≡ seek (fieldName (now (dict .entry)) (now (object .entry))) (now (name .entry)) (countOf (now (object .entry))) ⌝ }
+{
+    if l.count == 0 {
+        return Search::Nowhere;
+    }
+    let order = compare_field(dict, h, object, l, at, name);
+    match order {
+        names::Order::Less => Search::Nowhere,
+        names::Order::Equal => Search::At(at),
+        names::Order::Greater => find(dict, h, object, l, name, at),
+    }
+}
+
+// What a name's five words say.
+struct Row {
+    code: u32,
+    field: u32,
+    id: u32,
+    start: u32,
+    end: u32,
+}
+
+fn row_of(object: &[u8], l: Layer, found: Search) -> Row
+    requires { ⌜ LayerOf (now object) l × InLayer (now object) (soughtOf found) ⌝ }
+    ensures { λ r. ⌜ wordsOf r ≡ rowOf (foundAt (now (object .entry)) (soughtOf found)) ⌝ }
+{
+    match found {
+        Search::Nowhere => Row {
+            code: 1,
+            field: 0,
+            id: 0,
+            start: 0,
+            end: 0,
+        },
+        Search::At(k) => {
+            let place = field_place(object, l, k);
+            Row {
+                code: 0,
+                field: k as u32,
+                id: object::id_at(object, l, k) as u32,
+                start: place.start as u32,
+                end: place.end as u32,
+            }
+        }
+    }
+}
+
+fn write_row(words: &mut [u32], at: usize, row: Row)
+    requires { ⌜ at + 5 ≤ length (now words) ⌝ }
+    ensures { λ _. ⌜ now (words .exit) ≡ sets (now (words .entry)) at (wordsOf row) ⌝ }
+{
+    words[at] = row.code;
+    words[at + 1] = row.field;
+    words[at + 2] = row.id;
+    words[at + 3] = row.start;
+    words[at + 4] = row.end;
+}
+
+// The rows of two names.
+fn write_two(
+    dict: &[u8],
+    h: metadata::Header,
+    object: &[u8],
+    l: Layer,
+    first: &[u8],
+    second: &[u8],
+    words: &mut [u32],
+    at: usize,
+)
+    requires { ⌜ Opened (now dict) h (now object) l × (at + 10 ≤ length (now words)) ⌝ }
+    ensures { λ _. ⌜ now (words .exit) ≡ sets (sets (now (words .entry)) at (rowOf (lookup (now (dict .entry)) (now (object .entry)) (now (first .entry))))) (at + 5) (rowOf (lookup (now (dict .entry)) (now (object .entry)) (now (second .entry)))) ⌝ }
+{
+    let two = narrow(dict, h, object, l, first, second);
+    let one = settle(dict, h, object, l, first, two.first);
+    let other = settle(dict, h, object, l, second, two.second);
+    write_row(words, at, row_of(object, l, one));
+    write_row(words, at + 5, row_of(object, l, other));
+}
+
+// The row of one name.
+fn write_one(
+    dict: &[u8],
+    h: metadata::Header,
+    object: &[u8],
+    l: Layer,
+    name: &[u8],
+    words: &mut [u32],
+    at: usize,
+)
+    requires { ⌜ Opened (now dict) h (now object) l × (at + 5 ≤ length (now words)) ⌝ }
+    ensures { λ _. ⌜ now (words .exit) ≡ sets (now (words .entry)) at (rowOf (lookup (now (dict .entry)) (now (object .entry)) (now (name .entry)))) ⌝ }
+{
+    let found = find(dict, h, object, l, name, l.count);
+    write_row(words, at, row_of(object, l, found));
+}
+
+// The rows of all names, two at a time; of an odd number the last is left.
+fn write_rows(
+    dict: &[u8],
+    h: metadata::Header,
+    object: &[u8],
+    l: Layer,
+    names: &[u8],
+    ends: &[u32],
+    words: &mut [u32],
+)
+    requires { ⌜ Opened (now dict) h (now object) l × (endChecks (now names) (now ends) ≡ pass) × (5 * length (now ends) ≤ length (now words)) ⌝ }
+    ensures { λ _. ⌜ now (words .exit) ≡ each (row (now (dict .entry)) (now (object .entry)) (now (names .entry)) (now (ends .entry))) (length (now (ends .entry))) ++ drop (5 * length (now (ends .entry))) (now (words .entry)) ⌝ }
+{
+    let count = ends.len();
+    let mut k = 0;
+    let mut begin = 0;
+    let mut at = 0;
+    while 2 <= count - k {
+        let middle = ends[k] as usize;
+        let end = ends[k + 1] as usize;
+        let first = &names[begin..middle];
+        let second = &names[middle..end];
+        write_two(dict, h, object, l, first, second, words, at);
+        at += 10;
+        begin = end;
+        k += 2;
+    }
+    if k < count {
+        let end = ends[k] as usize;
+        write_one(dict, h, object, l, &names[begin..end], words, at);
+    }
+}
+
+pub enum Lookups {
+    BadEnd(usize),
+    Refused(object::Refusal),
+    NoRoom,
+    Answered {
+        count: usize,
+        start: usize,
+        end: usize,
+    },
+}
+
+// Lookup of many names whose ends are good.
+fn get_all_over(
+    dict: &[u8],
+    object: &[u8],
+    names: &[u8],
+    ends: &[u32],
+    words: &mut [u32],
+) -> Lookups
+    requires { ⌜ endChecks (now names) (now ends) ≡ pass ⌝ }
+    ensures { λ r. ⌜ GetAllPromise (now (dict .entry)) (now (object .entry)) (now (names .entry)) (now (ends .entry)) (now (words .entry)) r (now (words .exit)) ⌝ }
+{
+    let opening = object::open(dict, object);
+    match opening {
+        object::Opening::Refused(r) => Lookups::Refused(r),
+        object::Opening::Open(m) => {
+            let l = m.layer;
+            if words.len() / 5 < ends.len() {
+                return Lookups::NoRoom;
+            }
+            write_rows(dict, m.header, object, l, names, ends, words);
+            Lookups::Answered {
+                count: l.count,
+                start: l.start,
+                end: l.end,
+            }
+        }
+    }
+}
+
+// Lookup of many names at one check: five words a name, in the order asked.
+pub fn get_all(dict: &[u8], object: &[u8], names: &[u8], ends: &[u32], words: &mut [u32]) -> Lookups
+    ensures { λ r. ⌜ GetAllPromise (now (dict .entry)) (now (object .entry)) (now (names .entry)) (now (ends .entry)) (now (words .entry)) r (now (words .exit)) ⌝ }
+{
+    let checked = run::check(names, ends);
+    match checked {
+        run::Ends::Bad(k) => Lookups::BadEnd(k),
+        run::Ends::Good => get_all_over(dict, object, names, ends, words),
+    }
 }

@@ -1,8 +1,9 @@
 // Names in order, as the Rust compares `str`: byte by byte, unsigned, and a proper prefix first.
 ghost use mathlib.Core.Path.{_≡_};
 ghost use Prim.Native.Nat.{_+_, _≤_, _<_, min};
-ghost use lib.ListN.{length};
-ghost use Rattle.names.specs.Steps.{be, Raw, orderOf, Alike, Decides};
+ghost use lib.ListN.{length, getD};
+ghost use Rattle.part.specs.Part.{part};
+ghost use Rattle.names.specs.Steps.{be, Raw, orderOf, Alike, Decides, KeyOf};
 ghost use Rattle.names.specs.Promises.{ComparePromise, IsBelowPromise};
 
 pub enum Order {
@@ -142,4 +143,42 @@ pub fn is_below(a: &[u8], b: &[u8]) -> bool
         return x < y;
     }
     a.len() < b.len()
+}
+
+// Byte k of a name; 0 past its end.
+fn byte_or_zero(s: &[u8], k: usize) -> usize
+    ensures { λ r. ⌜ (r ≡ getD (now (s .entry)) k 0) × (r < 256) ⌝ }
+{
+    if k < s.len() {
+        return width::wide(s[k]);
+    }
+    0
+}
+
+// As `half`, with zeros past the end.
+fn padded_half(s: &[u8], at: usize) -> usize
+    requires { ⌜ at ≤ 4 ⌝ }
+    ensures { λ r. ⌜ (r ≡ be (now (s .entry)) at 4) × (r < 4294967296) ⌝ }
+{
+    let two = byte_or_zero(s, at) * 256 + byte_or_zero(s, at + 1);
+    (two * 256 + byte_or_zero(s, at + 2)) * 256 + byte_or_zero(s, at + 3)
+}
+
+// All keys are below this.
+pub const KEYS: usize = 0x100_0000_0000_0000;
+
+// The key of the name that stands in `s` from one place to another: its first seven bytes as a number, with zeros where it is shorter. Keys
+// that differ are in the order of their names. No branch depends on the length, but for the last bytes of `s`.
+pub fn key(s: &[u8], from: usize, to: usize) -> usize
+    requires { ⌜ (from ≤ to) × (to ≤ length (now s)) ⌝ }
+    ensures { λ r. ⌜ KeyOf (part (now (s .entry)) from to) r ⌝ }
+{
+    if s.len() - from < 8 {
+        let name = &s[from..to];
+        let eight = padded_half(name, 0) * 0x1_0000_0000 + padded_half(name, 4);
+        return eight / 256;
+    }
+    let seven = word(s, from) / 256;
+    let past = 56 - 8 * least(to - from, 7);
+    seven >> past << past
 }

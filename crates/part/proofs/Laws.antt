@@ -5,7 +5,7 @@ use Prim.Native.Nat.{ℕ, zero, suc, _+_, _-_, _≤_, _<_}
 use native.Mathlib.Nat.{sub-zero, zero-sub, suc-sub-suc}
 use native.Mathlib.Omega.{arith}
 use lib.ListN.{length, take, drop, getD, length-drop}
-use lib.Seq.{drop-append-le, take-append-le, length-take-le, getD-take, getD-drop, take-take, take-nil, drop-drop}
+use lib.Seq.{drop-append-le, take-append-le, length-take-le, getD-take, getD-drop, take-take, take-nil, take-all, drop-drop}
 use Rattle.part.specs.Part.{part}
 
 pub part-length : (s : List ℕ) (f t : ℕ) → f ≤ t → t ≤ length s → length (part s f t) ≡ t - f
@@ -31,3 +31,7 @@ pub part-part : (s : List ℕ) (f t a b : ℕ) → f + b ≤ t → part (part s 
 part-part s f t a b q =
     let e : f + b - (f + a) ≡ b - a = omega arith in
     rw (drop-take (t - f) a (drop f s), take-take (b - a) (t - f - a) (drop a (drop f s)) (omega arith), drop-drop a f s, e)
+
+-- all of it
+pub part-whole : (s : List ℕ) → part s 0 (length s) ≡ s
+part-whole s = rw sub-zero (take-all (length s) s (omega arith))

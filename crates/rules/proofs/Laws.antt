@@ -213,7 +213,7 @@ module _ (table : ℕ → List Rule) where
       let w = both-pass (first (each table n)) _ (sym (first-append (each table n) (table n)) ∙ e) in
       and-last (λ j. Passed (table j)) n (each-passed n (w .0)) (passed (table n) (w .1))
 
-pub each-same : (f g : ℕ → List Rule) (n : ℕ) → ((k : ℕ) → k < n → f k ≡ g k) → each f n ≡ each g n
+pub each-same : {A : Type 0} (f g : ℕ → List A) (n : ℕ) → ((k : ℕ) → k < n → f k ≡ g k) → each f n ≡ each g n
 unfolding each
 each-same f g zero h = refl
 each-same f g (suc n) h = rw (each-same f g n (λ k p. h k (omega arith)), h n (omega arith))

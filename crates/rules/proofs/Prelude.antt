@@ -15,7 +15,7 @@ pub use borrow.Author.Tests.{ne-eqb, lt-ltb, le-ltb, not-true, not-false, eq-eqb
 pub use lib.Dec.{eqb, ltb, leb}
 pub use lib.ListN.{length, length-append, List·getD-append, take, drop, length-take, take-append-drop, getD, length-set, set, length-drop, replicate}
 pub use lib.Seq.{take-all, take-add, sets-eq, getD-append-add, sets, take-at, drop-append-add, drop-drop}
-pub use Rattle.rules.specs.Rules.{accept, Found, Kept, Stays, codeOf, StopsAs, RefusedAs, Passed, Fails, Says, Test, Answer, refuse}
+pub use Rattle.rules.specs.Rules.{accept, Found, Kept, Stays, codeOf, StopsAs, RefusedAs, Passed, Fails, Says, Test, Answer, refuse, unlessRefused}
 unfoldable pub use Rattle.rules.specs.Rules.{first, each, _orElse_, _otherwise_}
 pub use Rattle.rules.specs.Rules.Answer.{gives}
 pub use Rattle.rules.specs.Rules.Found.{pass, stop}

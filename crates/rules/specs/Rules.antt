@@ -89,8 +89,8 @@ unfoldable pub first : List Rule → Found
 first [] = pass
 first ((test ⇒ code at place) ∷ rows) = cond (holds test) (stop code place) (first rows)
 
--- "entry by entry": the table of 0, then the table of 1, and so on up to n
-unfoldable pub each : (ℕ → List Rule) → ℕ → List Rule
+-- "entry by entry": the table of 0, then the table of 1, and so on up to n; and words that are written row by row
+unfoldable pub each : {A : Type 0} → (ℕ → List A) → ℕ → List A
 each table zero = []
 each table (suc n) = each table n ++ table n
 
@@ -103,6 +103,11 @@ _orElse_ (stop code place) next = stop code place
 unfoldable pub _otherwise_ : Found → Answer → Answer
 _otherwise_ pass answer = answer
 _otherwise_ (stop code place) answer = refuse code place
+
+-- what is written to lent memory, where all checks passed; any refusal leaves it
+abbrev pub unlessRefused : Found → List ℕ → List ℕ → List ℕ
+unlessRefused pass written kept = written
+unlessRefused (stop code place) written kept = kept
 
 -- WHAT TABLES SAY.
 

@@ -28,7 +28,7 @@ unused values = 0
 abbrev pub lookupShape : Shape
 lookupShape = record { number = value 0; id = value 1; start = value 2; end = value 3 }
 
--- field count, region start, trimmed end; of the listing, too
+-- field count, region start, trimmed end; of the listing and of many names, too
 abbrev pub layerShape : Shape
 layerShape = record { number = value 0; id = unused; start = value 1; end = value 2 }
 

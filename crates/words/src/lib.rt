@@ -5,7 +5,7 @@ ghost use Prim.Native.Nat.{_≤_};
 ghost use lib.ListN.{length};
 ghost use Rattle.metadata.specs.Answers.{refusalNumber as dictionaryNumber, refusalPlace as dictionaryPlace, verdictNumbers, entryNumbers};
 ghost use Rattle.object.specs.Answers.{refusalNumber as objectNumber, refusalPlace as objectPlace, verdictNumbers as layerNumbers};
-ghost use Rattle.lookup.specs.Answers.{lookupNumbers};
+ghost use Rattle.lookup.specs.Answers.{lookupNumbers, lookupsNumbers};
 ghost use Rattle.listing.specs.Answers.{listingNumbers};
 ghost use Rattle.words.specs.Shapes.{wordsOf, lookupShape, layerShape, dictionaryShape, nameShape, refusalWords, stripBytes};
 ghost use Rattle.words.specs.Steps.{listOf, Wrote};
@@ -121,6 +121,17 @@ pub fn of_lookup(l: lookup::Lookup) -> Words
             start,
             end,
         } => answer(field, id, start, end),
+    }
+}
+
+pub fn of_lookups(l: lookup::Lookups) -> Words
+    ensures { λ w. ⌜ listOf w ≡ wordsOf layerShape (lookupsNumbers l) ⌝ }
+{
+    match l {
+        lookup::Lookups::BadEnd(k) => refusal(45, k),
+        lookup::Lookups::Refused(r) => of_object_refusal(r),
+        lookup::Lookups::NoRoom => refusal(41, 0),
+        lookup::Lookups::Answered { count, start, end } => answer(count, 0, start, end),
     }
 }
 

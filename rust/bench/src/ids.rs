@@ -1,7 +1,7 @@
 //! The id of a field that was found: by one call, by two, and by the Rust's two searches.
 
 use crate::clock::medians;
-use crate::rows::{Row, rows};
+use crate::rows::{Row, labelled};
 use crate::sides::name;
 use lichenhusk::{Found, WORDS_PER_FIELD};
 use parquet_variant::{VariantMetadata, VariantObject};
@@ -13,12 +13,7 @@ const TAKEN: [&str; 4] = ["1 field", "16 fields", "255 fields", "4,000 names, 1 
 
 /// Every line of the table.
 pub fn taken() -> impl Iterator<Item = Row> {
-    rows().into_iter().filter(is_taken)
-}
-
-fn is_taken(row: &Row) -> bool {
-    let kind = row.label.rsplit_once(", ").map(|(kind, _)| kind);
-    kind.is_some_and(|kind| TAKEN.contains(&kind))
+    labelled(&TAKEN)
 }
 
 /// Nanoseconds by one call, by two, and by the Rust; of each name each finds the same id.

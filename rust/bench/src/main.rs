@@ -1,10 +1,11 @@
-//! The clock: check and lookup together, the found field's id, and UTF-8 alone, ours and the Rust's,
-//! in one process.
+//! The clock: check and lookup together, the found field's id, UTF-8 alone, and many names of one
+//! message, ours and the Rust's, in one process.
 //!
 //! `cargo run --profile measured -p bench`
 
 mod clock;
 mod ids;
+mod many;
 mod rows;
 mod sides;
 mod texts;
@@ -37,12 +38,22 @@ UTF-8 alone: a dictionary of one name.
   ours      lichenhusk::dictionary: the whole check of that dictionary
   Rust      std::str::from_utf8 of the name's bytes, and nothing else";
 
+/// The same for the fourth table.
+const MANY_LEGEND: &str = "\
+Many names of one message, all of them there; each turn asks for others.
+  ours      lichenhusk::lookup_all_into: dictionary check, layer check and all lookups, in one call;
+            the names' run and ends are there before, and the words are lent
+  Rust      VariantMetadata::try_new and VariantObject::try_new, then get of each name
+  singly    lichenhusk::lookup of each name, which checks dictionary and layer each time
+The names have twelve letters where nothing else is said.";
+
 fn main() {
     println!("{}", machine());
     println!("recipe: cargo run --profile measured -p bench; {SAMPLES} samples of each side");
     lookups();
     ids_too();
     texts_alone();
+    many_names();
     println!("\nload after: {}", load());
 }
 
@@ -113,6 +124,28 @@ fn texts_alone() {
             text.dict.len(),
             ours / library,
         );
+    }
+}
+
+/// The table of many names.
+fn many_names() {
+    println!("\n{MANY_LEGEND}\n");
+    println!(
+        "{:<55}{:>7}{:>7}{:>11}{:>11}{:>7}{:>11}{:>7}",
+        "row", "dict", "object", "ours", "Rust", "ratio", "singly", "ratio"
+    );
+    for row in many::messages() {
+        for count in many::COUNTS {
+            let [ours, theirs, singly] = many::measured(&row, count);
+            println!(
+                "{:<55}{:>7}{:>7}{ours:>11.1}{theirs:>11.1}{:>7.2}{singly:>11.1}{:>7.2}",
+                format!("{}, {count} at once", row.label),
+                row.dict.len(),
+                row.object.len(),
+                ours / theirs,
+                ours / singly,
+            );
+        }
     }
 }
 

@@ -21,6 +21,8 @@ pub struct Row {
 enum Names {
     /// Twelve letters at random.
     Letters,
+    /// Three to ten letters at random.
+    Mixed,
     /// Forty bytes in common, then a number.
     Prefixed,
     /// Six characters of two bytes at random.
@@ -45,12 +47,15 @@ enum Asked {
     Absent,
 }
 
+/// What a row is but for the order of its dictionary: label, count of names, and the choices above.
+type Kind = (&'static str, usize, Names, Fields, Asked);
+
 /// Every line of the table.
 pub fn rows() -> Vec<Row> {
     use Asked::*;
     use Fields::*;
     use Names::*;
-    let kinds = [
+    each_order(&[
         ("1 field", 1, Letters, All, Present),
         ("16 fields", 16, Letters, All, Present),
         ("255 fields", 255, Letters, All, Present),
@@ -86,9 +91,31 @@ pub fn rows() -> Vec<Row> {
             Middle,
             Present,
         ),
-    ];
+    ])
+}
+
+/// The lines of some labels.
+pub fn labelled(labels: &[&str]) -> impl Iterator<Item = Row> {
+    let is_taken = |row: &Row| {
+        let label = row.label.rsplit_once(", ").map(|(label, _)| label);
+        label.is_some_and(|label| labels.contains(&label))
+    };
+    rows().into_iter().filter(is_taken)
+}
+
+/// Messages with names of several lengths, which are not in the table.
+pub fn mixed() -> Vec<Row> {
+    let kind = |label, count| (label, count, Names::Mixed, Fields::All, Asked::Present);
+    each_order(&[
+        kind("16 fields, 3 to 10 letters", 16),
+        kind("255 fields, 3 to 10 letters", 255),
+    ])
+}
+
+/// Rows of kinds, sorted and unsorted.
+fn each_order(kinds: &[Kind]) -> Vec<Row> {
     let mut all = Vec::new();
-    for (label, count, names, fields, asked) in kinds {
+    for &(label, count, names, fields, asked) in kinds {
         for sorted in [true, false] {
             let label = format!("{label}, {}", if sorted { "sorted" } else { "unsorted" });
             all.push(row(label, count, names, sorted, fields, asked));
@@ -131,6 +158,7 @@ fn increasing(random: &mut Random, count: usize, names: Names) -> Vec<String> {
     while all.len() < count {
         all.insert(match names {
             Names::Letters => (0..12).map(|_| letter(random)).collect(),
+            Names::Mixed => (0..random.between(3, 10)).map(|_| letter(random)).collect(),
             Names::Prefixed => format!("{:_<40}{:04}", "station_meter_reading", all.len()),
             Names::TwoByte => (0..6).map(|_| two_byte(random)).collect(),
             Names::InTurn => (0..4).map(|_| in_turn(random)).collect(),

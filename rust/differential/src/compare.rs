@@ -8,14 +8,16 @@
 //! the Rust accepts each child that our listing gives; then counts, trimmed ends and names in
 //! field order are equal, each field is the value read from our child bytes, and a lookup finds
 //! exactly what `get` yields, with an id whose entry is the query, stands where the Rust reads the
-//! field's name and, in a sorted dictionary, is the one that `get_entry` finds. The same is asked
-//! of a copy with children that the Rust accepts (see [`traced`]), which gives a verdict on the
-//! layer alone, and places.
+//! field's name and, in a sorted dictionary, is the one that `get_entry` finds; so does the row of
+//! the same name among all that are looked for. The same is asked of a copy with children that the
+//! Rust accepts (see [`traced`]), which gives a verdict on the layer alone, and places.
 //!
 //! Of our own answers besides: each function gives the same refusal; an accepted layer's numbers
 //! are those of its header; a listing's spans are those of its starts; a lookup's id is the
-//! listing's; words after a listing, and all words under a refusal, stay.
+//! listing's; words after a listing, and all words under a refusal, stay. Of many names at once,
+//! [`many`](crate::many) says the rest.
 
+use crate::many::Many;
 use crate::original::{
     dictionary_number, may_be_object_number, place_in, same_value, traced, traced_start,
     utf8_error, words,
@@ -32,7 +34,7 @@ use std::fmt::{self, Debug};
 const ASKED: usize = 24;
 
 /// What a lent word holds before a call.
-const UNWRITTEN: u32 = 0xEEEE_EEEE;
+pub const UNWRITTEN: u32 = 0xEEEE_EEEE;
 
 /// Two answers that should agree and do not.
 #[derive(Clone, Debug, PartialEq, Eq)]
@@ -56,7 +58,8 @@ impl fmt::Display for Disagreement {
 /// Nothing, or where two answers differ.
 pub type Compared<T = ()> = Result<T, Disagreement>;
 
-fn differ<T>(asked: &str, ours: impl Debug, theirs: impl Debug) -> Compared<T> {
+/// The difference between two answers.
+pub fn differ<T>(asked: &str, ours: impl Debug, theirs: impl Debug) -> Compared<T> {
     Err(Disagreement {
         asked: asked.to_string(),
         ours: format!("{ours:?}"),
@@ -64,7 +67,8 @@ fn differ<T>(asked: &str, ours: impl Debug, theirs: impl Debug) -> Compared<T> {
     })
 }
 
-fn agree<T: PartialEq + Debug>(asked: &str, ours: T, theirs: T) -> Compared {
+/// Nothing where two answers are equal.
+pub fn agree<T: PartialEq + Debug>(asked: &str, ours: T, theirs: T) -> Compared {
     if ours == theirs {
         Ok(())
     } else {
@@ -203,17 +207,17 @@ pub fn object(
     let Some(metadata) = &known.theirs else {
         agree("an object over a refused dictionary", layer, known.ours)?;
         tally.over_refused += 1;
-        return same_refusal(reader, known.dict, bytes, layer);
+        return same_refusal(reader, known.dict, bytes, layer, tally);
     };
     if bytes.len() > LIMIT {
         agree("an object over the limit", layer, refused(20, 0))?;
         tally.over_limit += 1;
-        return same_refusal(reader, known.dict, bytes, layer);
+        return same_refusal(reader, known.dict, bytes, layer, tally);
     }
     if bytes.first().is_some_and(|header| header & 3 != 2) {
         agree("a value of another type", layer, refused(22, 0))?;
         tally.other_type += 1;
-        return same_refusal(reader, known.dict, bytes, layer);
+        return same_refusal(reader, known.dict, bytes, layer, tally);
     }
     let pair = Pair {
         reader,
@@ -229,8 +233,14 @@ pub fn object(
     }
 }
 
-/// Our lookup and our listing refuse as our layer does, and the listing leaves the words.
-fn same_refusal(reader: &impl Reader, dict: &[u8], bytes: &[u8], layer: Strip) -> Compared {
+/// Our lookups and our listing refuse as our layer does, and leave the words.
+fn same_refusal(
+    reader: &impl Reader,
+    dict: &[u8],
+    bytes: &[u8],
+    layer: Strip,
+    tally: &mut Tally,
+) -> Compared {
     agree(
         "a lookup's refusal",
         reader.lookup(dict, bytes, b"a"),
@@ -242,7 +252,14 @@ fn same_refusal(reader: &impl Reader, dict: &[u8], bytes: &[u8], layer: Strip) -
         reader.list(dict, bytes, &mut words),
         layer,
     )?;
-    agree("the words under a refusal", words, [UNWRITTEN; 4])
+    agree("the words under a refusal", words, [UNWRITTEN; 4])?;
+    let many = Many {
+        reader,
+        dict,
+        object: bytes,
+        layer,
+    };
+    many.refused(tally)
 }
 
 /// An object of the domain over a dictionary that both accept.
@@ -278,21 +295,32 @@ impl<'d, R: Reader> Pair<'_, 'd, R> {
             tally.traced += 1;
         }
         Tally::refuse(&mut tally.objects_refused, layer.code);
-        same_refusal(self.reader, self.dict, self.bytes, layer)
+        same_refusal(self.reader, self.dict, self.bytes, layer, tally)
     }
 
     fn accepted(&self, query: Option<&[u8]>, tally: &mut Tally) -> Compared {
         self.numbers()?;
         let fields = self.listed()?;
-        let lookups = self.lookups(&fields, query);
+        let lookups = self.lookups(&fields, query)?;
         let whole = self.whole(&fields, &lookups, tally)?;
         let alone = self.alone(&fields, &lookups, tally)?;
         self.ids(&fields, &lookups)?;
+        self.many().accepted(&lookups, tally)?;
         if whole || alone {
             tally.fields += fields.len() as u64;
+            tally.together += lookups.len() as u64;
             lookups.iter().for_each(|lookup| lookup.count(tally));
         }
         Ok(())
+    }
+
+    fn many(&self) -> Many<'_, R> {
+        Many {
+            reader: self.reader,
+            dict: self.dict,
+            object: self.bytes,
+            layer: self.layer,
+        }
     }
 
     /// The numbers of an accepted layer are those of its parts.
@@ -353,8 +381,8 @@ impl<'d, R: Reader> Pair<'_, 'd, R> {
         Ok(())
     }
 
-    /// Our lookups: of the fields' names, of others of the dictionary, and of names near these.
-    fn lookups(&self, fields: &[Field], query: Option<&[u8]>) -> Vec<Lookup> {
+    /// The names that are looked for: the fields', others of the dictionary, and names near these.
+    fn queries(&self, fields: &[Field], query: Option<&[u8]>) -> Vec<Vec<u8>> {
         let name = |entry: usize| self.metadata.get(entry).unwrap_or_default().as_bytes();
         let mut queries: Vec<Vec<u8>> = vec![b"".to_vec(), b"\xFF".to_vec()];
         queries.extend(query.map(<[u8]>::to_vec));
@@ -365,16 +393,24 @@ impl<'d, R: Reader> Pair<'_, 'd, R> {
             queries.push(name[..name.len().saturating_sub(1)].to_vec());
         }
         queries.extend(some_of(self.metadata.len()).map(|entry| name(entry).to_vec()));
-        let ask = |query: Vec<u8>| Lookup {
+        queries
+    }
+
+    /// Our lookups, of each name alone and of all at once.
+    fn lookups(&self, fields: &[Field], query: Option<&[u8]>) -> Compared<Vec<Lookup>> {
+        let queries = self.queries(fields, query);
+        let rows = self.many().rows_of(&queries)?;
+        let ask = |(query, row): (Vec<u8>, Strip)| Lookup {
             ours: self.reader.lookup(self.dict, self.bytes, &query),
             query,
+            row,
         };
-        queries.into_iter().map(ask).collect()
+        Ok(queries.into_iter().zip(rows).map(ask).collect())
     }
 
     /// The id that a lookup finds is the listing's.
     fn ids(&self, fields: &[Field], lookups: &[Lookup]) -> Compared {
-        for Lookup { query, ours } in lookups.iter().filter(|lookup| lookup.ours.code == OK) {
+        for Lookup { query, ours, .. } in lookups.iter().filter(|lookup| lookup.ours.code == OK) {
             let listed = fields.get(ours.number as usize).map(|field| field.id);
             agree(&format!("the id of {}", hex(query)), Some(ours.id), listed)?;
         }
@@ -454,40 +490,50 @@ impl<'d, R: Reader> Pair<'_, 'd, R> {
         Ok(())
     }
 
-    /// A lookup finds what `get` yields, with the field's id, and nothing exactly where that is
-    /// nothing.
+    /// A lookup finds what `get` yields, and nothing exactly where that is nothing; so does the row
+    /// of its name among all of them.
     fn gets(
         &self,
         theirs: &VariantObject,
         lookups: &[Lookup],
         is_at: impl Fn(&Variant, usize) -> bool,
     ) -> Compared {
-        for Lookup { query, ours } in lookups {
-            let (field, id) = (ours.number as usize, ours.id as usize);
-            let start = ours.start as usize;
+        for Lookup { query, ours, row } in lookups {
             let text = std::str::from_utf8(query).ok();
             let value = text.and_then(|text| Some((text, theirs.get(text)?)));
-            let agrees = match &value {
-                None => *ours == absent(),
-                Some((text, value)) => {
-                    let name = theirs.field_name(field);
-                    *ours == found(field, id, start, self.layer.end as usize)
-                        && name.is_some_and(|name| self.is_id(id, text, name))
-                        && is_at(value, start)
+            for (asked, ours) in [("the field", ours), ("among all names, the field", row)] {
+                let agrees = match &value {
+                    None => *ours == absent(),
+                    Some((text, value)) => {
+                        self.is_found(theirs, ours, text) && is_at(value, ours.start as usize)
+                    }
+                };
+                if !agrees {
+                    return differ(&format!("{asked} {}", hex(query)), ours, value);
                 }
-            };
-            if !agrees {
-                return differ(&format!("the field {}", hex(query)), ours, value);
             }
         }
         Ok(())
     }
+
+    /// Whether an answer is that of a field that was found, with its id; from where its child is
+    /// read is not asked.
+    fn is_found(&self, theirs: &VariantObject, ours: &Strip, text: &str) -> bool {
+        let (field, id) = (ours.number as usize, ours.id as usize);
+        let (start, end) = (ours.start as usize, self.layer.end as usize);
+        let name = theirs.field_name(field);
+        *ours == found(field, id, start, end) && name.is_some_and(|name| self.is_id(id, text, name))
+    }
 }
 
-/// A name, and our answer to it.
-struct Lookup {
-    query: Vec<u8>,
-    ours: Strip,
+/// A name, our answer to it alone, and the one to it among others.
+pub struct Lookup {
+    /// The name.
+    pub query: Vec<u8>,
+    /// Our answer to it.
+    pub ours: Strip,
+    /// Its row among the answers to all names.
+    row: Strip,
 }
 
 impl Lookup {

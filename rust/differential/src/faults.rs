@@ -1,7 +1,8 @@
 //! Readers that are wrong on purpose, to see that the comparison tells.
 
+use crate::many::bad_ends;
 use crate::ours::{Reader, absent, accepted, found, refused};
-use lichenhusk::{ABSENT, OK, Strip};
+use lichenhusk::{ABSENT, OK, Strip, WORDS_PER_NAME};
 
 /// What a wrong reader does wrong.
 #[derive(Clone, Copy, Debug, PartialEq, Eq)]
@@ -82,10 +83,26 @@ pub enum Fault {
     WritesPastListing,
     /// Writes a word though there is too little room.
     WritesUnderRefusal,
+    /// Gives the rows of many names in another order.
+    RowsBackwards,
+    /// Asks the first of many names again in place of the second.
+    FirstNameTwice,
+    /// Leaves the words of an absent name as they were lent.
+    LeavesAbsentRows,
+    /// Takes the bytes after the last end for a part of the last name.
+    NoLastEnd,
+    /// Writes a word after the rows.
+    WritesPastRows,
+    /// Says 41 before what is refused of the dictionary and the object.
+    RoomBeforeLayer,
+    /// Says 45 after what is refused of the dictionary.
+    EndsAfterDictionary,
+    /// Says 45 at the last name whose end is bad.
+    LastBadEnd,
 }
 
 /// Every fault.
-pub const ALL: [Fault; 38] = [
+pub const ALL: [Fault; 46] = [
     Fault::AlwaysShort,
     Fault::AbsentIsFound,
     Fault::AlwaysAbsent,
@@ -124,6 +141,14 @@ pub const ALL: [Fault; 38] = [
     Fault::WrongIds,
     Fault::WritesPastListing,
     Fault::WritesUnderRefusal,
+    Fault::RowsBackwards,
+    Fault::FirstNameTwice,
+    Fault::LeavesAbsentRows,
+    Fault::NoLastEnd,
+    Fault::WritesPastRows,
+    Fault::RoomBeforeLayer,
+    Fault::EndsAfterDictionary,
+    Fault::LastBadEnd,
 ];
 
 /// A right reader with a fault put over its answers.
@@ -196,6 +221,54 @@ impl<R: Reader> Faulty<R> {
                 refused(27, 0)
             }
             _ => self.wrong(strip),
+        }
+    }
+
+    /// A refusal of names that a fault gives where the right one is another, or none.
+    fn wrong_refusal(&self, dict: &[u8], run: &[u8], ends: &[u32], room: usize) -> Option<Strip> {
+        let bad = bad_ends(run, ends).last();
+        match (self.fault, bad) {
+            (Fault::RoomBeforeLayer, None) => {
+                (room < WORDS_PER_NAME * ends.len()).then(|| refused(41, 0))
+            }
+            (Fault::EndsAfterDictionary, Some(_)) => {
+                let strip = self.reader.dictionary(dict);
+                (strip.code != OK).then_some(strip)
+            }
+            (Fault::LastBadEnd, Some(name)) => Some(refused(45, name)),
+            _ => None,
+        }
+    }
+
+    /// The ends that a fault takes for those that it is given.
+    fn wrong_ends(&self, run: &[u8], ends: &[u32]) -> Vec<u32> {
+        let mut taken = ends.to_vec();
+        let are_good = bad_ends(run, ends).next().is_none();
+        match taken.last_mut() {
+            Some(last) if are_good && self.fault == Fault::NoLastEnd => *last = run.len() as u32,
+            _ => {}
+        }
+        taken
+    }
+
+    /// Makes the rows of so many names wrong; what was lent is given.
+    fn wrong_rows(&self, names: usize, words: &mut [u32], lent: &[u32]) {
+        let (rows, _) = words.as_chunks_mut::<WORDS_PER_NAME>();
+        match self.fault {
+            Fault::RowsBackwards => rows[..names].reverse(),
+            Fault::FirstNameTwice if names > 1 => rows[1] = rows[0],
+            Fault::LeavesAbsentRows => {
+                let (before, _) = lent.as_chunks();
+                let both = rows[..names].iter_mut().zip(before);
+                both.filter(|(row, _)| row[0] == ABSENT)
+                    .for_each(|(row, before)| *row = *before);
+            }
+            Fault::WritesPastRows => {
+                if let Some(word) = words.get_mut(WORDS_PER_NAME * names) {
+                    *word = 0;
+                }
+            }
+            _ => {}
         }
     }
 }
@@ -279,5 +352,24 @@ impl<R: Reader> Reader for Faulty<R> {
             _ => {}
         }
         strip
+    }
+
+    fn lookup_all(
+        &self,
+        dict: &[u8],
+        object: &[u8],
+        run: &[u8],
+        ends: &[u32],
+        words: &mut [u32],
+    ) -> Strip {
+        if let Some(strip) = self.wrong_refusal(dict, run, ends, words.len()) {
+            return strip;
+        }
+        let (lent, ends) = (words.to_vec(), self.wrong_ends(run, ends));
+        let strip = self.reader.lookup_all(dict, object, run, &ends, words);
+        if strip.code == OK {
+            self.wrong_rows(ends.len(), words, &lent);
+        }
+        self.wrong_layer(dict, object, strip)
     }
 }

@@ -1,8 +1,9 @@
 //! Lichenhusk and the Rust crate that it was ported from, given the same bytes.
 //!
-//! [`compare`] says what must agree; [`ours`] and [`original`] are the two sides; [`fixed`],
-//! [`exhaustive`], [`long_names`], [`generate`] and [`damage`] make the inputs; [`run`] goes through
-//! them, counting in a [`tally`], and has [`shrink`] make an input that disagrees as small as it can.
+//! [`compare`] says what must agree, and [`many`] of many names at once; [`ours`] and [`original`]
+//! are the two sides; [`fixed`], [`exhaustive`], [`long_names`], [`generate`] and [`damage`] make the
+//! inputs; [`run`] goes through them, counting in a [`tally`], and has [`shrink`] make an input that
+//! disagrees as small as it can.
 //! [`replay`] writes answers of the Rust's down, to be asked again where it is not at hand.
 
 pub mod compare;
@@ -13,6 +14,7 @@ pub mod faults;
 pub mod fixed;
 pub mod generate;
 pub mod long_names;
+pub mod many;
 pub mod original;
 pub mod ours;
 pub mod random;

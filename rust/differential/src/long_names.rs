@@ -1,6 +1,6 @@
 //! Long names, where a check that takes many bytes at once could go wrong: plain but for a place or
 //! two, plain but for four bytes, of longer characters with one byte changed, cut inside a
-//! character, and two that begin alike.
+//! character, and two or nine that begin alike.
 
 use crate::Input;
 use crate::encode::{DictionaryShape, dictionary, plain_object};
@@ -42,7 +42,7 @@ const CHANGES: [u8; 7] = [b'a', 0x80, 0xBF, 0xC3, 0xE2, 0xF0, 0xFF];
 /// is just short of a block or just has one.
 const BEFORE: [usize; 2] = [0, 65];
 
-/// How two names end that begin alike.
+/// How names end that begin alike.
 const TAILS: [&str; 9] = [
     "",
     "a",
@@ -141,7 +141,7 @@ pub fn beginnings() -> BTreeSet<Vec<u8>> {
 /// The same with two names that begin alike, in either order, sorted or not, and objects that have
 /// both as fields, in either order.
 pub fn alike<E>(mut visit: impl FnMut(&Input) -> Result<(), E>) -> Result<(), E> {
-    let common: String = ('a'..='z').cycle().take(COMMON).collect();
+    let common = common();
     let child = vec![0x0C, 1];
     let pairs = TAILS.iter().flat_map(|one| TAILS.map(|other| (one, other)));
     for (one, other) in pairs.filter(|(one, other)| *one != other) {
@@ -161,6 +161,39 @@ pub fn alike<E>(mut visit: impl FnMut(&Input) -> Result<(), E>) -> Result<(), E>
         }
     }
     Ok(())
+}
+
+/// The same with nine names that begin alike, sorted and backwards, and objects that have each set
+/// of them as fields.
+pub fn sets<E>(mut visit: impl FnMut(&Input) -> Result<(), E>) -> Result<(), E> {
+    let common = common();
+    for length in 0..=COMMON {
+        let mut names = TAILS.map(|tail| [&common[..length], tail].concat().into_bytes());
+        for sorted in [true, false] {
+            names.sort();
+            if !sorted {
+                names.reverse();
+            }
+            let shape = DictionaryShape {
+                width: 2,
+                sorted,
+                spare: false,
+            };
+            for set in 0..1 << TAILS.len() {
+                let mut ids: Vec<usize> =
+                    (0..TAILS.len()).filter(|id| set >> id & 1 == 1).collect();
+                ids.sort_by_key(|&id| &names[id]);
+                let object = plain_object(&ids, &vec![vec![0x0C, 1]; ids.len()]);
+                visit(&Input::object(dictionary(&names, shape), object))?;
+            }
+        }
+    }
+    Ok(())
+}
+
+/// The bytes that names have in common, of which some are taken.
+fn common() -> String {
+    ('a'..='z').cycle().take(COMMON).collect()
 }
 
 /// The dictionary of one name.

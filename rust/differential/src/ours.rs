@@ -15,6 +15,15 @@ pub trait Reader {
     fn lookup(&self, dict: &[u8], object: &[u8], name: &[u8]) -> Strip;
     /// As the layer, and the words filled.
     fn list(&self, dict: &[u8], object: &[u8], words: &mut [u32]) -> Strip;
+    /// The same for names, by their run and ends.
+    fn lookup_all(
+        &self,
+        dict: &[u8],
+        object: &[u8],
+        run: &[u8],
+        ends: &[u32],
+        words: &mut [u32],
+    ) -> Strip;
 }
 
 /// The archive itself.
@@ -40,6 +49,17 @@ impl Reader for Archive {
 
     fn list(&self, dict: &[u8], object: &[u8], words: &mut [u32]) -> Strip {
         filled(|strip| raw::list(dict, object, words, strip))
+    }
+
+    fn lookup_all(
+        &self,
+        dict: &[u8],
+        object: &[u8],
+        run: &[u8],
+        ends: &[u32],
+        words: &mut [u32],
+    ) -> Strip {
+        filled(|strip| raw::lookup_all(dict, object, run, ends, words, strip))
     }
 }
 

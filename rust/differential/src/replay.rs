@@ -10,7 +10,7 @@ use crate::original::{Reasons, dictionary_number, place_in, told, traced, traced
 use crate::random::Random;
 use crate::reading::ObjectParts;
 use crate::{Input, hex};
-use lichenhusk::LIMIT;
+use lichenhusk::{LIMIT, WORDS_PER_NAME, run_of};
 use parquet_variant::{VariantMetadata, VariantObject};
 use std::collections::{BTreeMap, BTreeSet};
 use std::fmt;
@@ -24,8 +24,11 @@ pub const KEPT: usize = 3_000;
 /// The longest line that is taken.
 const LONGEST: usize = 130;
 
-/// The most bytes in all.
-const MOST_BYTES: usize = 250_000;
+/// The most bytes in all: the program that replays the lines has room for 262,144.
+pub const MOST_BYTES: usize = 260_000;
+
+/// The most names at once: a reader of the lines has room for their rows.
+const MOST_NAMES: usize = 3;
 
 /// Inputs that are drawn before each class may have one line more.
 const ROUND: usize = 3_000;
@@ -98,7 +101,7 @@ impl Chosen {
 }
 
 /// What the Rust says to a case.
-#[derive(Clone, Copy, Debug, PartialEq, Eq)]
+#[derive(Clone, Debug, PartialEq, Eq)]
 enum Says {
     /// A dictionary: entry count and trimmed end.
     Dictionary(usize, usize),
@@ -113,6 +116,8 @@ enum Says {
     Found(usize, usize, usize, usize),
     /// Nothing of that name.
     Absent,
+    /// Many names of an object: its field count and trimmed end, and what is said to each name.
+    Rows(usize, usize, Vec<Says>),
     /// Refused, by our number if the Rust's words tell it.
     Refused(Option<u32>),
 }
@@ -127,8 +132,30 @@ impl fmt::Display for Says {
             Says::Child(count, end) => write!(to, "child {count} {end}"),
             Says::Found(field, id, start, end) => write!(to, "found {field} {id} {start} {end}"),
             Says::Absent => write!(to, "absent"),
+            Says::Rows(count, end, rows) => {
+                write!(to, "rows {count} {end} :")?;
+                rows.iter().try_for_each(|row| row.write_row(to))
+            }
             Says::Refused(Some(number)) => write!(to, "refuses {number}"),
             Says::Refused(None) => write!(to, "refuses -"),
+        }
+    }
+}
+
+impl Says {
+    /// How many of many names are found.
+    fn found(&self) -> usize {
+        match self {
+            Says::Rows(_, _, rows) => rows.iter().filter(|row| **row != Says::Absent).count(),
+            _ => 0,
+        }
+    }
+
+    /// The numbers of a name among many.
+    fn write_row(&self, to: &mut fmt::Formatter<'_>) -> fmt::Result {
+        match self {
+            Says::Found(field, id, start, end) => write!(to, " 0 {field} {id} {start} {end}"),
+            _ => write!(to, " 1 0 0 0 0"),
         }
     }
 }
@@ -146,9 +173,10 @@ impl Answer {
 
     /// What is asked, what is answered, and the shapes by the headers of what was read.
     fn class(&self, input: &Input) -> String {
-        let (dict_bits, object_bits) = match (self.kind(), self.says) {
+        let (dict_bits, object_bits) = match (self.kind(), &self.says) {
             ("dictionary", _) => (WIDTH | SORTED, 0),
             (_, Says::Refused(Some(10..=19))) => (0, 0),
+            ("all", says) if says.found() == 0 => (0, 0),
             ("name", _) => (WIDTH | SORTED, 0),
             _ => (SORTED, OBJECT_SHAPE),
         };
@@ -165,8 +193,9 @@ impl Answer {
     /// The case of the answer, with the number if it is a refusal.
     fn answered(&self) -> String {
         let whole = format!("{:?}", self.says);
-        match self.says {
+        match &self.says {
             Says::Refused(_) => whole,
+            Says::Rows(_, _, rows) => format!("{} of {}", self.says.found(), rows.len()),
             _ => whole.split('(').next().unwrap_or_default().to_string(),
         }
     }
@@ -203,12 +232,42 @@ fn answers(input: &Input) -> Vec<Answer> {
     if object.len() > LIMIT || object.first().is_some_and(|header| header & 3 != 2) {
         return all;
     }
+    all.extend(of_object(dict, object, input.query.as_deref()));
+    all
+}
+
+/// What is asked of an object.
+fn of_object(dict: &[u8], object: &[u8], query: Option<&[u8]>) -> Vec<Answer> {
+    let mut all = Vec::new();
     if let Some(says) = layer(dict, object) {
+        if let Says::Refused(_) = says {
+            let case = names_case(dict, object, &[query.unwrap_or_default()], 1, 0);
+            let says = says.clone();
+            all.push(Answer { case, says });
+        }
         let case = format!("layer {} {}", hex(dict), hex(object));
         all.push(Answer { case, says });
     }
-    all.extend(lookups(dict, object, input.query.as_deref()));
+    if let Some(open) = Open::of(dict, object, query) {
+        all.extend(open.lookups());
+        all.extend(open.many());
+    }
     all
+}
+
+/// The case of the first so many names, in room for their rows and so many words more.
+fn names_case(
+    dict: &[u8],
+    object: &[u8],
+    names: &[impl AsRef<[u8]>],
+    asked: usize,
+    more: usize,
+) -> String {
+    let (run, ends) = run_of(names).expect("names of few bytes");
+    let (dict, object, run) = (hex(dict), hex(object), hex(&run));
+    let room = WORDS_PER_NAME * asked + more;
+    let ends: Vec<String> = ends[..asked].iter().map(|end| format!(" {end}")).collect();
+    format!("all {dict} {object} {run} {room}{}", ends.concat())
 }
 
 fn dictionary(dict: &[u8]) -> Says {
@@ -266,39 +325,78 @@ fn has_all_parts(object: &[u8]) -> bool {
     ObjectParts::of(object).is_some_and(|parts| parts.region(object).is_some())
 }
 
-/// Lookups in an object that the Rust accepts: of no name, of the query, of all fields' names,
-/// and of names near these.
-fn lookups(dict: &[u8], object: &[u8], query: Option<&[u8]>) -> Vec<Answer> {
-    let accepted = VariantMetadata::try_new(dict)
-        .and_then(|metadata| VariantObject::try_new(metadata, object));
-    let (Ok(theirs), Some(copy)) = (accepted, traced(object)) else {
-        return Vec::new();
-    };
-    let mut names: Vec<Vec<u8>> = vec![Vec::new()];
-    names.extend(query.map(<[u8]>::to_vec));
-    for field in (0..theirs.len()).filter_map(|field| theirs.field_name(field)) {
-        names.push(field.as_bytes().to_vec());
-        names.push(format!("{field}a").into_bytes());
-    }
-    let answer = |name: Vec<u8>| {
-        let text = std::str::from_utf8(&name).ok()?;
-        Some(Answer {
-            case: format!("lookup {} {} {}", hex(dict), hex(object), hex(&name)),
-            says: lookup(&theirs, &copy, text)?,
-        })
-    };
-    names.into_iter().filter_map(answer).collect()
+/// An object that the Rust accepts, to look for names in.
+struct Open<'a> {
+    dict: &'a [u8],
+    object: &'a [u8],
+    theirs: VariantObject<'a, 'a>,
+    /// The object with other children, which tell where the Rust reads.
+    copy: Vec<u8>,
+    /// No name, the query, all fields' names, and names near these.
+    names: Vec<String>,
 }
 
-fn lookup(theirs: &VariantObject, copy: &[u8], name: &str) -> Option<Says> {
-    if theirs.get(name).is_none() {
-        return Some(Says::Absent);
+impl<'a> Open<'a> {
+    fn of(dict: &'a [u8], object: &'a [u8], query: Option<&[u8]>) -> Option<Open<'a>> {
+        let metadata = VariantMetadata::try_new(dict).ok()?;
+        let theirs = VariantObject::try_new(metadata, object).ok()?;
+        let mut names = vec![String::new()];
+        names.extend(query.and_then(|query| String::from_utf8(query.to_vec()).ok()));
+        for field in (0..theirs.len()).filter_map(|field| theirs.field_name(field)) {
+            names.push(field.to_string());
+            names.push(format!("{field}a"));
+        }
+        Some(Open {
+            dict,
+            object,
+            theirs,
+            copy: traced(object)?,
+            names,
+        })
     }
-    let field = (0..theirs.len()).find(|&field| theirs.field_name(field) == Some(name))?;
-    let id = entry_of(&theirs.metadata, theirs.field_name(field)?)?;
-    let alone = VariantObject::try_new(theirs.metadata.clone(), copy).ok()?;
-    let start = traced_start(&alone.get(name)?, copy)?;
-    Some(Says::Found(field, id, start, theirs.value.len()))
+
+    fn lookups(&self) -> Vec<Answer> {
+        let (dict, object) = (hex(self.dict), hex(self.object));
+        let answer = |name: &String| {
+            let case = format!("lookup {dict} {object} {}", hex(name.as_bytes()));
+            let says = self.lookup(name)?;
+            Some(Answer { case, says })
+        };
+        self.names.iter().filter_map(answer).collect()
+    }
+
+    /// Up to three names at once, and none. How many, which, whether the run goes on after them and
+    /// whether there is a word to spare, depends on the lengths, so that all of it comes.
+    fn many(&self) -> Vec<Answer> {
+        let size = self.dict.len() + self.object.len();
+        let (asked, goes_on, more) = (1 + size % MOST_NAMES, size / 3 % 2 == 1, size / 6 % 2);
+        let around = self.names.iter().cycle().skip(size % self.names.len());
+        let mut names: Vec<&str> = around.take(asked).map(String::as_str).collect();
+        if goes_on {
+            names.push("~");
+        }
+        let answer = |asked: usize| {
+            let case = names_case(self.dict, self.object, &names, asked, more);
+            let rows = names[..asked].iter().map(|name| self.lookup(name));
+            let (count, end) = (self.theirs.len(), self.theirs.value.len());
+            let says = Says::Rows(count, end, rows.collect::<Option<_>>()?);
+            Some(Answer { case, says })
+        };
+        [asked, 0].into_iter().filter_map(answer).collect()
+    }
+
+    /// What the Rust says to a name; nothing where the id cannot be told.
+    fn lookup(&self, name: &str) -> Option<Says> {
+        let theirs = &self.theirs;
+        if theirs.get(name).is_none() {
+            return Some(Says::Absent);
+        }
+        let field = (0..theirs.len()).find(|&field| theirs.field_name(field) == Some(name))?;
+        let id = entry_of(&theirs.metadata, theirs.field_name(field)?)?;
+        let alone = VariantObject::try_new(theirs.metadata.clone(), &self.copy).ok()?;
+        let start = traced_start(&alone.get(name)?, &self.copy)?;
+        Some(Says::Found(field, id, start, theirs.value.len()))
+    }
 }
 
 /// The entry that stands where a field's name was read; nothing where two do, as names of no bytes

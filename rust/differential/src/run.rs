@@ -150,6 +150,9 @@ impl<R: Reader> Run<'_, R> {
         self.kind("two names that begin alike", |run| {
             long_names::alike(|input| run.input(input))
         })?;
+        self.kind("nine names that begin alike, each set of them", |run| {
+            long_names::sets(|input| run.input(input))
+        })?;
         self.kind("generated, and damaged copies", Self::generated)
     }
 

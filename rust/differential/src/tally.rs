@@ -34,6 +34,10 @@ pub struct Tally {
     pub absent: u64,
     /// Lookups of bytes that are no text, which are absent and cannot be asked of the Rust.
     pub not_text: u64,
+    /// The same names asked together, whose rows are the lookups' answers.
+    pub together: u64,
+    /// Names of which an end falls or passes the run, refused at the first such name (45).
+    pub bad_ends: u64,
     /// Dictionaries and objects over the limit (10, 20), which the Rust takes.
     pub over_limit: u64,
     /// Values of another basic type (22), which the Rust's `VariantObject` does not look at.
@@ -87,6 +91,8 @@ impl fmt::Display for Tally {
             "lookups of no text, absent (not to be asked there)",
             self.not_text,
         )?;
+        line("the same names asked together", self.together)?;
+        line("names whose ends fall or pass the run, 45", self.bad_ends)?;
         line(
             "outside the domain: over the limit, 10 and 20",
             self.over_limit,

@@ -61,7 +61,7 @@ fn every_fault_is_tried() {
             "in the order of the enum, none left out"
         );
     }
-    assert_eq!(Fault::WritesUnderRefusal as usize, ALL.len() - 1);
+    assert_eq!(Fault::LastBadEnd as usize, ALL.len() - 1);
 }
 
 /// What a wrong reader finds for an absent name, to the byte.
@@ -92,6 +92,16 @@ fn a_panic_is_told() {
             unreachable!()
         }
         fn list(&self, _: &[u8], _: &[u8], _: &mut [u32]) -> lichenhusk::Strip {
+            unreachable!()
+        }
+        fn lookup_all(
+            &self,
+            _: &[u8],
+            _: &[u8],
+            _: &[u8],
+            _: &[u32],
+            _: &mut [u32],
+        ) -> lichenhusk::Strip {
             unreachable!()
         }
     }

@@ -3,6 +3,7 @@
 use differential::encode::{self, DictionaryShape, ObjectShape};
 use differential::exhaustive::each;
 use differential::long_names::beginnings;
+use differential::many::bad_ends;
 use differential::original::{traced, traced_start};
 use differential::random::Random;
 use differential::reading::{DictionaryParts, ObjectParts};
@@ -143,6 +144,15 @@ fn damage_damages() {
         .collect();
     let changed = copies.iter().filter(|&copy| *copy != good).count();
     assert!(changed > 80, "{changed}");
+}
+
+#[test]
+fn ends_that_fall_or_pass_the_run() {
+    let bad = |ends: &[u32]| bad_ends(b"flowroll", ends).collect::<Vec<u32>>();
+    assert_eq!(bad(&[]), []);
+    assert_eq!(bad(&[0, 4, 4, 8]), []);
+    assert_eq!(bad(&[4, 3, 8, 9]), [1, 3]);
+    assert_eq!(bad(&[9, 4, 8]), [0, 1]);
 }
 
 #[test]

@@ -1,9 +1,12 @@
 //! The lines that are written down say what our answers must be, and ours are that.
 
 use differential::ours::{Archive, Reader};
-use differential::replay::{KEPT, SEED, lines};
+use differential::replay::{KEPT, MOST_BYTES, SEED, lines};
 use lichenhusk::Strip;
 use std::collections::BTreeSet;
+
+/// What a lent word holds before a call.
+const BEFORE: u32 = 7;
 
 fn bytes(text: &str) -> Vec<u8> {
     if text == "-" {
@@ -13,29 +16,55 @@ fn bytes(text: &str) -> Vec<u8> {
     (0..text.len()).step_by(2).map(pair).collect()
 }
 
-/// Our answer to a case.
-fn ours(case: &str) -> Strip {
+fn number(word: &str) -> u32 {
+    word.parse().expect("a number")
+}
+
+fn numbers(words: &[&str]) -> Vec<u32> {
+    words.iter().map(|word| number(word)).collect()
+}
+
+/// Our answer to a case, and the words that were lent for it.
+fn ours(case: &str) -> (Strip, Vec<u32>) {
     let words: Vec<&str> = case.split(' ').collect();
-    match words[..] {
+    let strip = match words[..] {
         ["dictionary", d] => Archive.dictionary(&bytes(d)),
-        ["name", d, n] => Archive.name(&bytes(d), n.parse().expect("a number")),
+        ["name", d, n] => Archive.name(&bytes(d), number(n) as usize),
         ["layer", d, o] => Archive.layer(&bytes(d), &bytes(o)),
         ["lookup", d, o, name] => Archive.lookup(&bytes(d), &bytes(o), &bytes(name)),
+        ["all", d, o, run, room, ref ends @ ..] => {
+            let (d, o, run) = (bytes(d), bytes(o), bytes(run));
+            let mut lent = vec![BEFORE; number(room) as usize];
+            // What the program that replays the lines has room for.
+            assert!(d.len().max(o.len()).max(run.len()) <= 256 && lent.len() <= 16);
+            let strip = Archive.lookup_all(&d, &o, &run, &numbers(ends), &mut lent);
+            return (strip, lent);
+        }
         _ => panic!("no case: {case}"),
-    }
+    };
+    (strip, vec![])
 }
 
 /// Whether our answer is as the line says, by the rules of rust/README.md.
-fn holds(case: &str, says: &str, strip: Strip) -> bool {
+fn holds(case: &str, says: &str, strip: Strip, lent: &[u32]) -> bool {
     let words: Vec<&str> = says.split(' ').collect();
-    let number = |word: &str| word.parse::<u32>().expect("a number");
+    let rows = match words[..] {
+        ["rows", _, _, ":", ref rows @ ..] => numbers(rows),
+        _ => vec![],
+    };
+    let (written, after) = lent.split_at(rows.len());
+    if written != rows || after.iter().any(|&word| word != BEFORE) {
+        return false;
+    }
     let (code, start, place) = (strip.code, strip.start, strip.place);
     let ours = [code, strip.number, strip.id, start, strip.end, place];
     match words[..] {
         ["accepts", count, end] if case.starts_with("dictionary") => {
             ours == [0, number(count), 0, 0, number(end), 0]
         }
-        ["accepts" | "child", count, end] => ours == [0, number(count), 0, start, number(end), 0],
+        ["accepts" | "child", count, end] | ["rows", count, end, ":", ..] => {
+            ours == [0, number(count), 0, start, number(end), 0]
+        }
         ["at", start, end] => ours == [0, 0, 0, number(start), number(end), 0],
         ["found", field, id, start, end] => {
             ours == [0, number(field), number(id), number(start), number(end), 0]
@@ -47,17 +76,18 @@ fn holds(case: &str, says: &str, strip: Strip) -> bool {
     }
 }
 
-/// What is asked, and the word of the answer with a refusal's number.
+/// What is asked, and the word of the answer with a refusal's number, or that of the rows.
 fn kind(case: &str, says: &str) -> String {
     let first = |text: &str| text.split(' ').next().unwrap_or_default().to_string();
-    match says.starts_with("refuses") {
-        true => format!("{} {says}", first(case)),
-        false => format!("{} {}", first(case), first(says)),
+    match first(says).as_str() {
+        "refuses" => format!("{} {says}", first(case)),
+        "rows" => format!("{} rows of {}", first(case), case.split(' ').count() - 5),
+        word => format!("{} {word}", first(case)),
     }
 }
 
 /// What lines there must be.
-const KINDS: [&str; 27] = [
+const KINDS: [&str; 36] = [
     "dictionary accepts",
     "dictionary refuses 11",
     "dictionary refuses 12",
@@ -85,6 +115,15 @@ const KINDS: [&str; 27] = [
     "layer refuses -",
     "lookup found",
     "lookup absent",
+    "all rows of 0",
+    "all rows of 1",
+    "all rows of 2",
+    "all rows of 3",
+    "all refuses 13",
+    "all refuses 18",
+    "all refuses 23",
+    "all refuses 26",
+    "all refuses -",
 ];
 
 #[test]
@@ -94,7 +133,11 @@ fn our_answers_are_as_the_lines_say() {
     let mut kinds = BTreeSet::new();
     for line in &lines {
         let (case, says) = line.split_once(" => ").expect("a case and an answer");
-        assert!(holds(case, says, ours(case)), "{line}: {:?}", ours(case));
+        let (strip, lent) = ours(case);
+        assert!(
+            holds(case, says, strip, &lent),
+            "{line}: {strip:?} {lent:?}"
+        );
         kinds.insert(kind(case, says));
     }
     for kind in KINDS {
@@ -108,7 +151,7 @@ fn the_lines_are_settled() {
     let first = lines(12, 500);
     assert_eq!(first, lines(12, 500));
     assert!(first.is_sorted_by(|a, b| a < b));
-    assert!(bytes_of(&first) < 250_000);
+    assert!(bytes_of(&first) < MOST_BYTES);
 }
 
 fn bytes_of(lines: &[String]) -> usize {
@@ -124,7 +167,7 @@ fn the_kept_lines_are_these() {
         return;
     };
     let lines = lines(SEED, KEPT);
-    assert!(bytes_of(&lines) < 250_000);
+    assert!(bytes_of(&lines) < MOST_BYTES);
     let kept: Vec<&str> = kept.lines().collect();
     assert!(kept == lines, "write it again: ./run.sh replay {KEPT}");
 }

@@ -2,8 +2,8 @@
 //! code is proved to meet its definitions.
 //!
 //! A Variant comes as two buffers: a dictionary of field names and a value. This crate checks a
-//! dictionary and one layer of an object, finds a field by its name and lists the fields. It
-//! does not look into the children: a child is handed back as bytes of the object.
+//! dictionary and one layer of an object, finds a field by its name, or many by theirs, and lists
+//! the fields. It does not look into the children: a child is handed back as bytes of the object.
 //!
 //! Each call checks what it is lent from the start, and keeps and copies nothing. Any bytes may
 //! be lent; what is wrong with them is a [`Refusal`] with a number and a place. What a C caller
@@ -11,6 +11,8 @@
 //! says how. The functions called are proved; this crate around them is tested.
 //!
 //! ```
+//! use lichenhusk::Message;
+//!
 //! // A sorted dictionary of "flow" and "roll", and an object that has both.
 //! let dict = b"\x11\x02\x00\x04\x08flowroll";
 //! let object = b"\x02\x02\x00\x01\x01\x00\x03\x04\x0C\xFB";
@@ -18,6 +20,10 @@
 //! let flow = lichenhusk::child(dict, object, b"flow")?;
 //! assert_eq!(flow, Some(&object[8..10]));
 //! assert_eq!(lichenhusk::child(dict, object, b"rol")?, None);
+//!
+//! // Many names, and both buffers are checked once.
+//! let [flow, roll] = Message::new(dict, object).children(["flow", "roll"])?;
+//! assert_eq!((flow, roll), (Some(&object[8..10]), Some(&object[7..10])));
 //!
 //! for field in lichenhusk::list(dict, object)? {
 //!     let name = lichenhusk::name(dict, field.id as usize)?;
@@ -29,11 +35,13 @@
 #![deny(unsafe_code)]
 #![warn(missing_docs)]
 
+mod message;
 #[allow(unsafe_code)]
 pub mod raw;
 mod refusal;
 mod strip;
 
+pub use message::Message;
 pub use refusal::Refusal;
 pub use strip::Strip;
 
@@ -45,6 +53,9 @@ pub const STRIP_BYTES: usize = 24;
 
 /// The words of a listing for each field.
 pub const WORDS_PER_FIELD: usize = 3;
+
+/// The words for each of many names.
+pub const WORDS_PER_NAME: usize = 5;
 
 /// The code of what was accepted, found or written.
 pub const OK: u32 = 0;
@@ -83,6 +94,13 @@ pub struct Found {
     pub start: usize,
     /// Where the child ends: at the end of the object's own bytes, for every child.
     pub end: usize,
+}
+
+impl Found {
+    /// The child, in the object where it was found.
+    fn child_of(self, object: &[u8]) -> &[u8] {
+        &object[self.start..self.end]
+    }
 }
 
 /// A field as a listing has it.
@@ -159,12 +177,8 @@ pub fn layer(dict: &[u8], object: &[u8]) -> Result<Layer, Refusal> {
 /// ```
 pub fn lookup(dict: &[u8], object: &[u8], name: &[u8]) -> Result<Option<Found>, Refusal> {
     let strip = Strip::of(|strip| raw::lookup(dict, object, name, strip)).accepted()?;
-    Ok((strip.code == OK).then_some(Found {
-        field: strip.number as usize,
-        id: strip.id,
-        start: strip.start as usize,
-        end: strip.end as usize,
-    }))
+    let row = [strip.code, strip.number, strip.id, strip.start, strip.end];
+    Ok(found_of(row))
 }
 
 /// As [`lookup`], and hands back the child as a part of the object.
@@ -187,7 +201,115 @@ pub fn child<'object>(
     name: &[u8],
 ) -> Result<Option<&'object [u8]>, Refusal> {
     let found = lookup(dict, object, name)?;
-    Ok(found.map(|found| &object[found.start..found.end]))
+    Ok(found.map(|found| found.child_of(object)))
+}
+
+/// Checks a dictionary and one layer of an object once, and looks for the fields of many names.
+///
+/// The answers are those of [`lookup`], in the order of the names. This puts the names one after
+/// another first; with [`run_of`] that is done once for all messages, and [`lookup_all_into`] then
+/// allocates nothing.
+///
+/// ```
+/// use lichenhusk::Found;
+///
+/// let dict = b"\x11\x02\x00\x04\x08flowroll";
+/// let object = b"\x02\x02\x00\x01\x01\x00\x03\x04\x0C\xFB";
+/// let flow = Found { field: 0, id: 0, start: 8, end: 10 };
+/// let roll = Found { field: 1, id: 1, start: 7, end: 10 };
+/// let found = lichenhusk::lookup_all(dict, object, &["roll", "rol", "flow"])?;
+/// assert_eq!(found, [Some(roll), None, Some(flow)]);
+/// # Ok::<(), lichenhusk::Refusal>(())
+/// ```
+pub fn lookup_all<N: AsRef<[u8]>>(
+    dict: &[u8],
+    object: &[u8],
+    names: &[N],
+) -> Result<Vec<Option<Found>>, Refusal> {
+    let (run, ends) = run_of(names)?;
+    let mut words = vec![0; WORDS_PER_NAME * ends.len()];
+    lookup_all_into(dict, object, &run, &ends, &mut words)?;
+    Ok(rows_of(&words).collect())
+}
+
+/// Names as [`lookup_all_into`] takes them: one after another, and where each of them ends.
+///
+/// Ends are numbers of 32 bits. The first name whose end is none, because the names up to it are
+/// longer together, is refused as one whose end passes the run.
+///
+/// ```
+/// let (run, ends) = lichenhusk::run_of(&["flow", "", "roll"])?;
+/// assert_eq!((&run[..], &ends[..]), (&b"flowroll"[..], &[4, 4, 8][..]));
+/// # Ok::<(), lichenhusk::Refusal>(())
+/// ```
+pub fn run_of<N: AsRef<[u8]>>(names: &[N]) -> Result<(Vec<u8>, Vec<u32>), Refusal> {
+    let mut length: usize = 0;
+    let end = |(index, name): (usize, &N)| {
+        length = length.saturating_add(name.as_ref().len());
+        let name = index as u32;
+        u32::try_from(length).map_err(|_| Refusal::NamesEnd { name })
+    };
+    let ends = names
+        .iter()
+        .enumerate()
+        .map(end)
+        .collect::<Result<_, _>>()?;
+    let mut run = Vec::with_capacity(length);
+    names
+        .iter()
+        .for_each(|name| run.extend_from_slice(name.as_ref()));
+    Ok((run, ends))
+}
+
+/// Checks a dictionary and one layer of an object once, looks for the fields of many names, and
+/// writes five words a name into room that is lent: code, field, id, start, end, the last four 0
+/// where the name is absent. Words after these stay as they are, and a refusal leaves them all.
+///
+/// The names stand one after another in a run of bytes; the ends say where, counted from its
+/// first byte. Bytes after the last end are ignored.
+///
+/// ```
+/// use lichenhusk::Refusal;
+///
+/// let dict = b"\x11\x02\x00\x04\x08flowroll";
+/// let object = b"\x02\x02\x00\x01\x01\x00\x03\x04\x0C\xFB";
+/// let (run, ends) = lichenhusk::run_of(&["roll", "rol"])?;
+/// let mut words = [9; 11];
+/// let layer = lichenhusk::lookup_all_into(dict, object, &run, &ends, &mut words)?;
+/// assert_eq!(Ok(layer), lichenhusk::layer(dict, object));
+/// assert_eq!(words, [0, 1, 1, 7, 10, 1, 0, 0, 0, 0, 9]);
+///
+/// let (falls, little) = ([4, 3], &mut [9; 9]);
+/// let refused = lichenhusk::lookup_all_into(dict, object, &run, &falls, little);
+/// assert_eq!(refused, Err(Refusal::NamesEnd { name: 1 }));
+/// let refused = lichenhusk::lookup_all_into(dict, object, &run, &ends, little);
+/// assert_eq!(refused, Err(Refusal::WordsTooFew));
+/// assert_eq!(little, &[9; 9]);
+/// # Ok::<(), Refusal>(())
+/// ```
+pub fn lookup_all_into(
+    dict: &[u8],
+    object: &[u8],
+    names: &[u8],
+    ends: &[u32],
+    words: &mut [u32],
+) -> Result<Layer, Refusal> {
+    let fill = |strip: &mut [u8]| raw::lookup_all(dict, object, names, ends, words, strip);
+    Ok(layer_of(Strip::of(fill).accepted()?))
+}
+
+/// What was found, by the words that [`lookup_all_into`] wrote. A cut last row is left out.
+///
+/// ```
+/// let rows = [0, 1, 1, 7, 10, 1, 0, 0, 0, 0];
+/// let mut found = lichenhusk::rows_of(&rows);
+/// assert_eq!(found.next().unwrap().map(|roll| roll.start), Some(7));
+/// assert_eq!(found.next().unwrap(), None);
+/// assert!(found.next().is_none());
+/// ```
+pub fn rows_of(words: &[u32]) -> impl Iterator<Item = Option<Found>> {
+    let (rows, _) = words.as_chunks();
+    rows.iter().copied().map(found_of)
 }
 
 /// Checks a dictionary and one layer of an object, and lists the fields in their order.
@@ -261,6 +383,16 @@ pub fn empty(room: &mut [u8]) -> Result<(), Refusal> {
         OK => Ok(()),
         number => Err(Refusal::known(number, 0)),
     }
+}
+
+/// What was found, by a row of words; a strip begins with the same.
+fn found_of([code, field, id, start, end]: [u32; WORDS_PER_NAME]) -> Option<Found> {
+    (code == OK).then_some(Found {
+        field: field as usize,
+        id,
+        start: start as usize,
+        end: end as usize,
+    })
 }
 
 fn layer_of(strip: Strip) -> Layer {

@@ -25,6 +25,21 @@ unsafe extern "C" {
         strip_len: usize,
     ) -> u32;
 
+    fn lichenhusk_lookup_all(
+        dict: *const u8,
+        dict_len: usize,
+        object: *const u8,
+        object_len: usize,
+        names: *const u8,
+        names_len: usize,
+        ends: *const u32,
+        ends_len: usize,
+        words: *mut u32,
+        words_len: usize,
+        strip: *mut u8,
+        strip_len: usize,
+    ) -> u32;
+
     fn lichenhusk_dictionary(
         dict: *const u8,
         dict_len: usize,
@@ -74,6 +89,34 @@ pub fn lookup(dict: &[u8], object: &[u8], name: &[u8], strip: &mut [u8]) -> u32 
             object.len(),
             name.as_ptr(),
             name.len(),
+            strip.as_mut_ptr(),
+            strip.len(),
+        )
+    }
+}
+
+/// Looks for the fields of many names, five words each; the strip is the layer's.
+pub fn lookup_all(
+    dict: &[u8],
+    object: &[u8],
+    names: &[u8],
+    ends: &[u32],
+    words: &mut [u32],
+    strip: &mut [u8],
+) -> u32 {
+    // SAFETY: as the head of this module says.
+    unsafe {
+        lichenhusk_lookup_all(
+            dict.as_ptr(),
+            dict.len(),
+            object.as_ptr(),
+            object.len(),
+            names.as_ptr(),
+            names.len(),
+            ends.as_ptr(),
+            ends.len(),
+            words.as_mut_ptr(),
+            words.len(),
             strip.as_mut_ptr(),
             strip.len(),
         )

@@ -7,8 +7,8 @@ use std::fmt;
 /// A refusal, with its place where it has one.
 ///
 /// Of several reasons to refuse, the one given is the first in the order in which bytes are
-/// checked: the dictionary before the object, a header before what it describes, and then entry
-/// by entry and field by field.
+/// checked: the ends of names before the dictionary, the dictionary before the object, a header
+/// before what it describes, and then entry by entry and field by field.
 ///
 /// ```
 /// let refusal = lichenhusk::dictionary(&[1, 1, 0, 1, 0xFF]).unwrap_err();
@@ -91,10 +91,16 @@ pub enum Refusal {
     NoSuchEntry,
     /// 40: the strip is shorter than [`STRIP_BYTES`].
     StripTooShort,
-    /// 41: there are fewer than three words of room for each field.
+    /// 41: there are fewer than three words of room for each field of a listing, or than five
+    /// for each of many names.
     WordsTooFew,
     /// 42: there are fewer than three bytes of room for the empty dictionary.
     RoomTooSmall,
+    /// 45: of many names, the end of one falls below where it begins or passes the run of names.
+    NamesEnd {
+        /// The first such name.
+        name: u32,
+    },
 }
 
 use Refusal::*;
@@ -133,6 +139,7 @@ impl Refusal {
             40 => StripTooShort,
             41 => WordsTooFew,
             42 => RoomTooSmall,
+            45 => NamesEnd { name: place },
             _ => return None,
         })
     }
@@ -174,6 +181,7 @@ impl Refusal {
             StripTooShort => 40,
             WordsTooFew => 41,
             RoomTooSmall => 42,
+            NamesEnd { .. } => 45,
         }
     }
 
@@ -183,6 +191,7 @@ impl Refusal {
             DictionaryNotUtf8 { prefix } | DictionaryTextCut { prefix } => prefix,
             DictionaryEntry { entry } | DictionaryOrder { entry } => entry,
             ObjectId { field } | ObjectOrder { field } | ObjectOffset { field } => field,
+            NamesEnd { name } => name,
             _ => 0,
         }
     }
@@ -247,11 +256,15 @@ impl fmt::Display for Refusal {
             StripTooShort => write!(to, "the strip is shorter than {STRIP_BYTES} bytes"),
             WordsTooFew => write!(
                 to,
-                "there are fewer than three words of room for each field"
+                "there are fewer than three words of room for each field, or than five for each of many names"
             ),
             RoomTooSmall => write!(
                 to,
                 "there are fewer than 3 bytes of room for the empty dictionary"
+            ),
+            NamesEnd { name } => write!(
+                to,
+                "the end of name {name} falls below where it begins or passes the run of names"
             ),
         }
     }

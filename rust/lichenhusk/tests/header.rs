@@ -1,6 +1,6 @@
 //! The C header says what this crate says: the same numbers, and an example that runs.
 
-use lichenhusk::{ABSENT, LIMIT, OK, Refusal, STRIP_BYTES, WORDS_PER_FIELD};
+use lichenhusk::{ABSENT, LIMIT, OK, Refusal, STRIP_BYTES, WORDS_PER_FIELD, WORDS_PER_NAME};
 use std::collections::BTreeMap;
 use std::fs;
 use std::path::{Path, PathBuf};
@@ -49,6 +49,10 @@ fn every_number_is_there() {
         (
             "LICHENHUSK_WORDS_PER_FIELD".to_string(),
             WORDS_PER_FIELD as u32,
+        ),
+        (
+            "LICHENHUSK_WORDS_PER_NAME".to_string(),
+            WORDS_PER_NAME as u32,
         ),
         ("LICHENHUSK_EMPTY_BYTES".to_string(), 3),
     ]);
@@ -108,16 +112,61 @@ fn the_example_compiles_as_c_and_as_cpp() {
     }
 }
 
-#[test]
-fn the_example_runs() {
-    let source = folder().join("example.c");
-    let program = folder().join("example");
-    fs::write(&source, example()).expect("room for the example");
+/// What a C program prints.
+fn printed(name: &str, text: &str) -> String {
+    let program = folder().join(name);
+    let source = program.with_extension("c");
+    fs::write(&source, text).expect("room for the program");
     let archive = env!("LICHENHUSK_LINKED_ARCHIVE");
     let program_text = program.to_str().expect("a plain path");
     let options = ["-std=c99", "-x", "none", archive, "-o", program_text];
     compile("cc", "c", &source, &options);
-    let output = Command::new(&program).output().expect("the example runs");
+    let output = Command::new(&program).output().expect("the program runs");
     assert!(output.status.success());
-    assert_eq!(output.stdout, b"field 0, entry 0, bytes 8 to 10\n");
+    String::from_utf8(output.stdout).expect("text")
+}
+
+#[test]
+fn the_example_runs() {
+    assert_eq!(
+        printed("example", &example()),
+        "field 0, entry 0, bytes 8 to 10\n"
+    );
+}
+
+/// The example with its one name replaced by two, and another end for the second of them.
+const MANY: &str = r#"
+#include <stdio.h>
+#include "lichenhusk.h"
+
+int main(void)
+{
+    const uint8_t dict[] = {0x11, 2, 0, 4, 8, 'f', 'l', 'o', 'w', 'r', 'o', 'l', 'l'};
+    const uint8_t object[] = {0x02, 2, 0, 1, 1, 0, 3, 4, 0x0C, 0xFB};
+    const uint8_t names[] = {'r', 'o', 'l', 'l', 'r', 'o', 'l'};
+    const uint32_t ends[] = {4, 7, 8};
+    uint32_t words[2 * LICHENHUSK_WORDS_PER_NAME];
+    uint8_t strip[LICHENHUSK_STRIP_BYTES];
+    size_t k;
+
+    if (lichenhusk_lookup_all(dict, sizeof dict, object, sizeof object, names, sizeof names,
+                              ends, 2, words, 10, strip, sizeof strip) != LICHENHUSK_OK)
+        return 1;
+    printf("%u fields:", (unsigned) lichenhusk_word(strip, LICHENHUSK_NUMBER));
+    for (k = 0; k < 10; k++)
+        printf(" %u", (unsigned) words[k]);
+    if (lichenhusk_lookup_all(dict, sizeof dict, object, sizeof object, names, sizeof names,
+                              ends, 3, words, 10, strip, sizeof strip) != LICHENHUSK_NAMES_END)
+        return 1;
+    printf("; then name %u\n", (unsigned) lichenhusk_word(strip, LICHENHUSK_PLACE));
+    return 0;
+}
+"#;
+
+#[test]
+fn many_names_from_c() {
+    assert_eq!(
+        printed("many", MANY),
+        "2 fields: 0 1 1 7 10 1 0 0 0 0; then name 2\n"
+    );
 }

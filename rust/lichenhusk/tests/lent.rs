@@ -12,7 +12,7 @@ const BEFORE: u8 = 0xEE;
 type Call = (&'static str, fn(&mut [u8]) -> u32);
 
 /// Each call that fills a strip, on bytes that are accepted.
-fn calls() -> [Call; 5] {
+fn calls() -> [Call; 6] {
     [
         ("lookup", |strip| {
             raw::lookup(&hex(D), &hex(P), b"roll", strip)
@@ -23,17 +23,23 @@ fn calls() -> [Call; 5] {
         ("list", |strip| {
             raw::list(&hex(D), &hex(P), &mut [0; 6], strip)
         }),
+        ("lookup_all", |strip| {
+            raw::lookup_all(&hex(D), &hex(P), b"roll", &[4], &mut [0; 5], strip)
+        }),
     ]
 }
 
 /// Each call that fills a strip, on bytes that are refused.
-fn refused_calls() -> [Call; 5] {
+fn refused_calls() -> [Call; 6] {
     [
         ("lookup", |strip| raw::lookup(&[2], &hex(P), b"roll", strip)),
         ("dictionary", |strip| raw::dictionary(&[2], strip)),
         ("name", |strip| raw::name(&[2], 1, strip)),
         ("layer", |strip| raw::layer(&[2], &hex(P), strip)),
         ("list", |strip| raw::list(&[2], &hex(P), &mut [0; 6], strip)),
+        ("lookup_all", |strip| {
+            raw::lookup_all(&[2], &hex(P), b"roll", &[4], &mut [0; 5], strip)
+        }),
     ]
 }
 
@@ -56,6 +62,12 @@ fn a_short_strip_leaves_the_words() {
         40
     );
     assert_eq!(words, [7; 6]);
+    for ends in [&[4][..], &[5], &[]] {
+        let strip = &mut [0; STRIP_BYTES - 1];
+        let code = raw::lookup_all(&hex(D), &hex(P), b"roll", ends, &mut words, strip);
+        assert_eq!(code, 40);
+        assert_eq!(words, [7; 6]);
+    }
 }
 
 #[test]
@@ -97,6 +109,7 @@ fn every_word_of_each_answer() {
         [0, 0, 0, 9, 13, 0],
         [0, 2, 0, 7, 10, 0],
         [0, 2, 0, 7, 10, 0],
+        [0, 2, 0, 7, 10, 0],
     ];
     for ((name, call), answer) in calls().into_iter().zip(answers) {
         assert_eq!(words_of(call), answer, "{name}");
@@ -124,6 +137,14 @@ fn every_word_of_absence_and_of_a_placed_refusal() {
         words_of(|strip| raw::list(&hex(D), &hex(P), &mut [0; 5], strip)),
         [41, 0, 0, 0, 0, 0]
     );
+    assert_eq!(
+        words_of(|strip| raw::lookup_all(&hex(D), &hex(P), b"a", &[1], &mut [0; 4], strip)),
+        [41, 0, 0, 0, 0, 0]
+    );
+    assert_eq!(
+        words_of(|strip| raw::lookup_all(&hex(D), &hex(P), b"a", &[1, 0], &mut [0; 10], strip)),
+        [45, 0, 0, 0, 0, 1]
+    );
 }
 
 #[test]
@@ -132,6 +153,36 @@ fn words_after_the_listing_stay() {
     let mut strip = [0; STRIP_BYTES];
     assert_eq!(raw::list(&hex(D), &hex(P), &mut words, &mut strip), 0);
     assert_eq!(words, [0, 8, 2, 1, 7, 1, 7, 7, 7]);
+}
+
+#[test]
+fn words_after_the_rows_stay() {
+    let mut words = [7; 13];
+    let mut strip = [0; STRIP_BYTES];
+    let (dict, object, run) = (hex(D), hex(P), b"rolroll");
+    assert_eq!(
+        raw::lookup_all(&dict, &object, run, &[3, 7], &mut words, &mut strip),
+        0
+    );
+    assert_eq!(words, [1, 0, 0, 0, 0, 0, 1, 1, 7, 10, 7, 7, 7]);
+}
+
+/// Every kind of refusal: of the ends, the dictionary, the object and the room.
+#[test]
+fn a_refusal_leaves_the_words() {
+    let refused = |number, dict: &[u8], object: &[u8], ends: &[u32], room| {
+        let mut words = vec![7; room];
+        let mut strip = [0; STRIP_BYTES];
+        let code = raw::lookup_all(dict, object, b"roll", ends, &mut words, &mut strip);
+        assert_eq!(code, number);
+        assert_eq!(words, vec![7; room], "{number}");
+    };
+    let (dict, object) = (hex(D), hex(P));
+    refused(45, &dict, &object, &[5], 5);
+    refused(45, &dict, &object, &[4, 3], 10);
+    refused(12, &[2], &object, &[4], 5);
+    refused(22, &dict, &[0], &[4], 5);
+    refused(41, &dict, &object, &[4], 4);
 }
 
 #[test]
@@ -154,6 +205,11 @@ fn empty_slices() {
     assert_eq!(raw::layer(&hex(D), &[], &mut strip), 21);
     assert_eq!(raw::lookup(&hex(D), &hex(P), &[], &mut strip), 1);
     assert_eq!(raw::list(&hex(D), &hex("02 00 00"), &mut [], &mut strip), 0);
+    assert_eq!(raw::lookup_all(&[], &[], &[], &[], &mut [], &mut strip), 11);
+    assert_eq!(
+        raw::lookup_all(&hex(D), &hex(P), &[], &[], &mut [], &mut strip),
+        0
+    );
     assert_eq!(raw::dictionary(&[], &mut []), 40);
     assert_eq!(raw::empty(&mut []), 42);
 }

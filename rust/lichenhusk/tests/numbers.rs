@@ -3,7 +3,7 @@
 mod common;
 
 use common::{D, P, hex, padded};
-use lichenhusk::{LIMIT, Refusal};
+use lichenhusk::{LIMIT, Message, Refusal};
 
 /// A refusal, its number, its place, and bytes that get it: a dictionary and, if it is the
 /// object's, an object.
@@ -123,7 +123,14 @@ fn each_is_carried_by_every_call() {
             lichenhusk::list_into(&row.dict, object, &mut words).err(),
             refused
         );
+        assert_eq!(
+            lichenhusk::lookup_all_into(&row.dict, object, b"flow", &[4], &mut words).err(),
+            refused
+        );
         assert_eq!(words, [7; 8], "a refusal leaves the words");
+        let message = Message::new(&row.dict, object);
+        assert_eq!(message.lookup_all(&["flow", "roll"]).err(), refused);
+        assert_eq!(message.children(["flow", "roll"]).err(), refused);
         if row.object.is_none() {
             assert_eq!(lichenhusk::name(&row.dict, 0).err(), refused);
             assert_eq!(lichenhusk::name(&row.dict, usize::MAX).err(), refused);
@@ -153,6 +160,18 @@ fn too_few_words() {
 }
 
 #[test]
+fn too_few_words_for_names() {
+    let (dict, object) = (hex(D), hex(P));
+    for room in 0..10 {
+        let mut words = vec![7; room];
+        let answer = lichenhusk::lookup_all_into(&dict, &object, b"flowrol", &[4, 7], &mut words);
+        assert_eq!(answer, Err(Refusal::WordsTooFew));
+        assert_eq!(words, vec![7; room]);
+    }
+    assert!(lichenhusk::lookup_all_into(&dict, &object, b"", &[], &mut []).is_ok());
+}
+
+#[test]
 fn too_little_room() {
     for length in 0..3 {
         let mut room = vec![7; length];
@@ -171,12 +190,13 @@ fn numbers_and_cases_match() {
         .chain(20..=27)
         .chain([31])
         .chain(40..=42)
+        .chain([45])
         .collect();
     assert_eq!(numbers, all);
     for number in all {
         let refusal = Refusal::of(number, 5).unwrap();
         assert_eq!(refusal.number(), number);
-        let has_place = matches!(number, 16..=19 | 25..=27);
+        let has_place = matches!(number, 16..=19 | 25..=27 | 45);
         assert_eq!(refusal.place(), if has_place { 5 } else { 0 });
         assert_eq!(
             Refusal::of(refusal.number(), refusal.place()),
@@ -189,7 +209,7 @@ fn numbers_and_cases_match() {
 #[test]
 fn each_says_what_it_is() {
     let mut seen = std::collections::HashSet::new();
-    for number in 10..=42 {
+    for number in 10..=45 {
         let Some(refusal) = Refusal::of(number, 6) else {
             continue;
         };
@@ -202,7 +222,7 @@ fn each_says_what_it_is() {
         }
         assert!(seen.insert(words.to_string()), "{text}");
     }
-    assert_eq!(seen.len(), 22);
+    assert_eq!(seen.len(), 23);
 }
 
 #[test]

@@ -2,7 +2,7 @@
 use mathlib.Core.Path.{_∙_}
 use native.Mathlib.Omega.{arith}
 use borrow.Author.Needs.{needs}
-use Rattle.lichenhusk.specs.Strip.{listAfter}
+use Rattle.lichenhusk.specs.Strip.{filledAfter}
 use Rattle.listing.specs.Words.{listed}
 use Rattle.words.specs.Shapes.{layerShape}
 use Rattle.lichenhusk.proofs.Carries.{carried}
@@ -11,7 +11,7 @@ use Rattle.ask.proofs.list.Statement.{statement}
 use Rattle.ask.proofs.list.Tie as tie
 
 pub list-spec : {M : Type 1} → statement M
-unfolding listAfter
+unfolding filledAfter
 list-spec =
     tie.close
     (tie.spec

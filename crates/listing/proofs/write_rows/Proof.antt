@@ -1,15 +1,16 @@
 -- `listing::write_rows` meets its contract: the loop keeps the rows before k, and after them the words as they were. Assumes nothing.
 use Rattle.rules.proofs.Prelude.{_≡_, refl, _++_, _+_, _-_, _*_, _≤_, arith, length, drop, length-set}
+use Rattle.rules.proofs.Rows.{rows-none}
 use Rattle.metadata.specs.Limits.{u32Max}
 use Rattle.object.specs.Object.{count as countOf}
 use Rattle.object.proofs.Laws.{end-is}
 use Rattle.listing.specs.Words.{span, rows}
-use Rattle.listing.proofs.Rows.{rows-none, turn}
+use Rattle.listing.proofs.Rows.{turn}
 use Rattle.listing.proofs.write_rows.Statement.{statement}
 use Rattle.listing.proofs.write_rows.Tie as tie
 
 abbrev Inv-loop : tie.InvT-loop
-Inv-loop object l words₀ fields at₀ k₀ words at k = (words ≡ rows object k ++ drop (3 * k) words₀) × (at ≡ 3 * k) × (k ≤ fields) × (length words ≡ length words₀)
+Inv-loop object l words₀ fields at₀ k₀ words at k = (words ≡ rows object k ++ drop at words₀) × (at ≡ 3 * k) × (k ≤ fields) × (length words ≡ length words₀)
 
 abbrev μ-loop : tie.MeasureT-loop
 μ-loop object l words₀ fields at₀ k₀ words at k = fields - k
@@ -47,5 +48,7 @@ write-rows-spec =
     ))  -- loop-again
     (λ c. c .before .loop .inv .3)  -- same-length
     (λ c. let l = c .before .loop in
-    let all : l .k ≡ countOf (c .before .before .before .before .args .object .now) = omega arith in
-    rw all at (l .inv .0)))  -- returns
+    let n = countOf (c .before .before .before .before .args .object .now) in
+    let all : l .k ≡ n = omega arith in
+    let words : l .at ≡ 3 * n = omega arith in
+    rw (all, words) at (l .inv .0)))  -- returns

@@ -8,6 +8,7 @@ use Rattle.object.specs.Steps.{Opened}
 use Rattle.object.proofs.Laws.{in-region, end-is}
 use Rattle.lookup.specs.ByName.{found, lookup}
 use Rattle.lookup.specs.Steps.{soughtOf}
+use Rattle.lookup.proofs.FromAbove.{none-above}
 use Rattle.lookup.proofs.get_over.Statement.{statement}
 use Rattle.lookup.proofs.get_over.Tie as tie
 
@@ -33,7 +34,7 @@ get-over-spec =
     tie.close
     (tie.spec
     (λ c κs. search needs) (λ c. search needs) (λ c. search needs)
-    (λ c κs. opened c)  -- find-requires
+    (λ c κs. let m = opened c in (m, omega (arith, m .layered .count-is), rw (m .layered .count-is) (none-above _ _ _)))  -- find-requires
     (λ c. search needs) (λ c. search needs)
     (λ c κs. (opened (c .before .before .before .before) .layered, field c))  -- id-at-requires
     (λ c κs. let a = c .before .before .before .before .before .before .before .before .before .before .before .before .args in

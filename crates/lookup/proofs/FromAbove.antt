@@ -1,0 +1,32 @@
+-- A search that is narrowed from above: from some field on, all come after the query. Assumes nothing.
+use Rattle.rules.proofs.Prelude.{_≡_, List, ℕ, _+_, _-_, _≤_, _<_, arith, pass}
+use Rattle.names.specs.Order.Says.{greater}
+use Rattle.names.specs.Steps.{KeyOf}
+use Rattle.names.proofs.Laws.{compare-of}
+use Rattle.names.proofs.Search.{Between, between-greater}
+use Rattle.names.proofs.Keys.{key-before}
+use Rattle.object.specs.Object.{count, fieldName, checks}
+use Rattle.object.proofs.Laws.{names-rise}
+use Rattle.lookup.specs.Steps.{AllAbove, Probed}
+use Rattle.lookup.specs.Steps.Probed.{taken, kept}
+
+module _ (d o q : List ℕ) where
+  -- no field is known to come after it, or all from there on
+  pub none-above : AllAbove d o q (count o)
+  none-above k p r = absurd (omega arith)
+
+  pub fewer-above : (from to : ℕ) → from ≤ to → AllAbove d o q from → AllAbove d o q to
+  fewer-above from to p above k u = above k (omega arith)
+
+  pub between : (from : ℕ) → AllAbove d o q from → Between (fieldName d o) q (count o) 0 from
+  between from above = record { below = λ k p. absurd (omega arith); above = above }
+
+  -- a probe in the middle of so many leaves the larger half
+  pub narrowed : checks d o ≡ pass → {key : ℕ} → KeyOf q key → (at size half r : ℕ) → half ≤ size - half → half < size → at + size ≤ count o
+      → AllAbove d o q (at + size) → Probed (fieldName d o (at + half)) key at half r → (r + (size - half) ≤ count o) × AllAbove d o q (r + (size - half))
+  narrowed passes is at size half r u v w above taken = (omega arith, fewer-above (at + size) (at + half + (size - half)) (omega arith) above)
+  narrowed passes is at size half r u v w above (kept other p) =
+      let rising = names-rise d o passes in
+      let inside : at + half < count o = omega arith in
+      let b = between-greater (fieldName d o) q (count o) rising 0 (at + size) (at + half) (between (at + size) above) inside (compare-of (greater (key-before is other p))) in
+      (omega arith, fewer-above (at + half) (at + (size - half)) (omega arith) (b .above))

@@ -1,0 +1,49 @@
+-- `lookup::narrow` meets its contract: each turn of the loop takes a half away, for both names. Assumes nothing.
+use Rattle.rules.proofs.Prelude.{List, ℕ, _+_, _/_, _≤_, _<_, arith, needs}
+use Rattle.part.proofs.Laws.{part-whole}
+use Rattle.object.specs.Object.{count}
+use Rattle.lookup.specs.Steps.{AllAbove}
+use Rattle.lookup.proofs.FromAbove.{none-above, fewer-above, narrowed}
+use Rattle.lookup.proofs.narrow.Statement.{statement}
+use Rattle.lookup.proofs.narrow.Tie as tie
+
+-- so many fields from `at` on may be the query's
+pub record Among (d o q : List ℕ) (at size : ℕ) : Type 0 where
+  pub inside : at + size ≤ count o
+  pub above : AllAbove d o q (at + size)
+
+abbrev Inv-loop : tie.InvT-loop
+Inv-loop dict h object l first second p q at₀ other₀ size₀ at other size =
+    (0 < count object → 1 ≤ size) × Among dict object first at size × Among dict object second other size
+
+abbrev μ-loop : tie.MeasureT-loop
+μ-loop dict h object l first second p q at₀ other₀ size₀ at other size = size
+
+pub narrow-spec : {M : Type 1} → statement M
+narrow-spec =
+    tie.close
+    (tie.spec
+    Inv-loop
+    μ-loop
+    (λ c κs. search needs) (λ c κs. search needs)
+    (λ c. let s = c .before .before .before .before .before .before in
+    let all : (q : List ℕ) → Among (s .args .dict .now) (s .args .object .now) q 0 (s .args .l .count) = λ q. record {
+      inside = omega (arith, s .pre .layered .count-is);
+      above = fewer-above _ _ q _ _ (omega (arith, s .pre .layered .count-is)) (none-above _ _ q);
+    } in
+    (λ p. omega (arith, s .pre .layered .count-is), all _, all _))  -- loop-holds
+    (λ c κs. let i = c .before .loop .inv in (c .before .before .before .before .before .before .before .before .pre, omega (arith, i .1 .inside), c .before .before .before .key .ensures .small))  -- probe-requires
+    (λ c κs. let i = c .before .before .loop .inv in (c .before .before .before .before .before .before .before .before .before .pre, omega (arith, i .2 .inside), c .before .before .before .key2 .ensures .small))  -- probe-requires-2
+    (λ c. omega arith) (λ c. omega arith)
+    (λ c. let s = c .before .before .before .before .before .before .before .before .before .before in
+    let passes = s .pre .passes in
+    let l = c .before .before .before .loop in
+    let p-is = rw (part-whole (s .args .first .now)) at (c .before .before .before .before .before .key .ensures) in
+    let q-is = rw (part-whole (s .args .second .now)) at (c .before .before .before .before .key2 .ensures) in
+    let one = narrowed _ _ _ passes p-is (l .at) (l .size) (l .size / 2) _ (omega arith) (omega arith) (l .inv .1 .inside) (l .inv .1 .above) (c .before .probe .ensures) in
+    let two = narrowed _ _ _ passes q-is (l .other) (l .size) (l .size / 2) _ (omega arith) (omega arith) (l .inv .2 .inside) (l .inv .2 .above) (c .probe2 .ensures) in
+    (λ p. omega arith, record { inside = one .0; above = one .1 }, record { inside = two .0; above = two .1 }))  -- loop-again
+    (λ c. let l = c .before .loop in (
+      record { inside = λ p. omega (arith, l .inv .0 p, l .inv .1 .inside); above = fewer-above _ _ _ _ _ (omega arith) (l .inv .1 .above) },
+      record { inside = λ p. omega (arith, l .inv .0 p, l .inv .2 .inside); above = fewer-above _ _ _ _ _ (omega arith) (l .inv .2 .above) },
+    )))  -- returns

@@ -1,0 +1,24 @@
+-- `lookup::write_row` meets its contract: five words, one after another. Assumes nothing.
+use Rattle.rules.proofs.Prelude.{_≡_, suc, _+_, arith, needs, length-set}
+use Rattle.lookup.proofs.write_row.Statement.{statement}
+use Rattle.lookup.proofs.write_row.Tie as tie
+
+pub write-row-spec : {M : Type 1} → statement M
+write-row-spec =
+    tie.close
+    (tie.spec
+    (λ c. search needs) (λ c. search needs) (λ c. search needs) (λ c. search needs)
+    (λ c. simp length-set (omega arith))  -- slice-write-words-2
+    (λ c. search needs) (λ c. search needs)
+    (λ c. simp length-set (omega arith))  -- slice-write-words-3
+    (λ c. search needs) (λ c. search needs)
+    (λ c. simp length-set (omega arith))  -- slice-write-words-4
+    (λ c. search needs) (λ c. search needs)
+    (λ c. simp length-set (omega arith))  -- slice-write-words-5
+    (λ c. search needs)
+    (λ c. let at = c .args .at in
+    let e1 : at + 1 ≡ suc at = omega arith in
+    let e2 : at + 2 ≡ suc (suc at) = omega arith in
+    let e3 : at + 3 ≡ suc (suc (suc at)) = omega arith in
+    let e4 : at + 4 ≡ suc (suc (suc (suc at))) = omega arith in
+    rw (e1, e2, e3, e4)))  -- returns

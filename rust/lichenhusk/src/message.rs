@@ -1,0 +1,130 @@
+//! A dictionary and an object, asked together.
+
+use crate::{Field, Found, Layer, Refusal};
+
+/// A dictionary and an object over it, as they came.
+///
+/// It holds the two slices and nothing else: any bytes may be in them, and each question checks
+/// both from the start. So what is wanted of a message is best asked in one question, which is
+/// what [`children`](Message::children) is for.
+///
+/// ```
+/// use lichenhusk::Message;
+///
+/// let dict = b"\x11\x02\x00\x04\x08flowroll";
+/// let object = b"\x02\x02\x00\x01\x01\x00\x03\x04\x0C\xFB";
+/// let message = Message::new(dict, object);
+/// let [flow, roll, rol] = message.children(["flow", "roll", "rol"])?;
+/// assert_eq!(flow, Some(&[0x0C, 0xFB][..]));
+/// assert_eq!(roll, Some(&object[7..]));
+/// assert_eq!(rol, None);
+/// # Ok::<(), lichenhusk::Refusal>(())
+/// ```
+#[derive(Clone, Copy, Debug, PartialEq, Eq, Hash)]
+pub struct Message<'m> {
+    dict: &'m [u8],
+    object: &'m [u8],
+}
+
+impl<'m> Message<'m> {
+    /// The message of a dictionary and an object. Nothing is checked yet.
+    pub fn new(dict: &'m [u8], object: &'m [u8]) -> Message<'m> {
+        Message { dict, object }
+    }
+
+    /// Checks the message, as [`layer`](crate::layer()) does.
+    ///
+    /// ```
+    /// use lichenhusk::{Message, Refusal};
+    ///
+    /// let dict = b"\x11\x02\x00\x04\x08flowroll";
+    /// assert_eq!(Message::new(dict, &[2, 0, 0]).layer()?.fields, 0);
+    /// assert_eq!(Message::new(dict, &[0]).layer(), Err(Refusal::ObjectType));
+    /// # Ok::<(), Refusal>(())
+    /// ```
+    pub fn layer(self) -> Result<Layer, Refusal> {
+        crate::layer(self.dict, self.object)
+    }
+
+    /// Looks for the field of a name, as [`lookup`](crate::lookup()) does.
+    ///
+    /// ```
+    /// use lichenhusk::Message;
+    ///
+    /// let dict = b"\x11\x02\x00\x04\x08flowroll";
+    /// let message = Message::new(dict, b"\x02\x02\x00\x01\x01\x00\x03\x04\x0C\xFB");
+    /// assert_eq!(message.lookup("roll")?.map(|roll| roll.start), Some(7));
+    /// assert_eq!(message.lookup(b"rol")?, None);
+    /// # Ok::<(), lichenhusk::Refusal>(())
+    /// ```
+    pub fn lookup(self, name: impl AsRef<[u8]>) -> Result<Option<Found>, Refusal> {
+        crate::lookup(self.dict, self.object, name.as_ref())
+    }
+
+    /// The child of a name, as [`child`](crate::child()) hands it back.
+    ///
+    /// ```
+    /// use lichenhusk::Message;
+    ///
+    /// let dict = b"\x11\x02\x00\x04\x08flowroll";
+    /// let message = Message::new(dict, b"\x02\x02\x00\x01\x01\x00\x03\x04\x0C\xFB");
+    /// assert_eq!(message.child("flow")?, Some(&[0x0C, 0xFB][..]));
+    /// # Ok::<(), lichenhusk::Refusal>(())
+    /// ```
+    pub fn child(self, name: impl AsRef<[u8]>) -> Result<Option<&'m [u8]>, Refusal> {
+        crate::child(self.dict, self.object, name.as_ref())
+    }
+
+    /// Lists the fields, as [`list`](crate::list()) does.
+    ///
+    /// ```
+    /// use lichenhusk::Message;
+    ///
+    /// let dict = b"\x11\x02\x00\x04\x08flowroll";
+    /// let message = Message::new(dict, b"\x02\x02\x00\x01\x01\x00\x03\x04\x0C\xFB");
+    /// let starts: Vec<usize> = message.list()?.iter().map(|field| field.start).collect();
+    /// assert_eq!(starts, [8, 7]);
+    /// # Ok::<(), lichenhusk::Refusal>(())
+    /// ```
+    pub fn list(self) -> Result<Vec<Field>, Refusal> {
+        crate::list(self.dict, self.object)
+    }
+
+    /// Looks for the fields of many names, as [`lookup_all`](crate::lookup_all()) does.
+    ///
+    /// ```
+    /// use lichenhusk::Message;
+    ///
+    /// let dict = b"\x11\x02\x00\x04\x08flowroll";
+    /// let message = Message::new(dict, b"\x02\x02\x00\x01\x01\x00\x03\x04\x0C\xFB");
+    /// let wanted = vec![String::from("flow"), String::from("rol")];
+    /// let found = message.lookup_all(&wanted)?;
+    /// assert_eq!(found, [message.lookup("flow")?, None]);
+    /// # Ok::<(), lichenhusk::Refusal>(())
+    /// ```
+    pub fn lookup_all<N: AsRef<[u8]>>(self, names: &[N]) -> Result<Vec<Option<Found>>, Refusal> {
+        crate::lookup_all(self.dict, self.object, names)
+    }
+
+    /// The children of some names, in the order of the names, at one check of the message.
+    ///
+    /// They live as long as the message's bytes; the names may go before.
+    ///
+    /// ```
+    /// use lichenhusk::Message;
+    ///
+    /// let dict = b"\x11\x02\x00\x04\x08flowroll";
+    /// let object = b"\x02\x02\x00\x01\x01\x00\x03\x04\x0C\xFB";
+    /// let [flow, roll] = Message::new(dict, object).children(["flow", "roll"])?;
+    /// assert_eq!((flow, roll), (Some(&object[8..]), Some(&object[7..])));
+    /// # Ok::<(), lichenhusk::Refusal>(())
+    /// ```
+    pub fn children<const N: usize>(
+        self,
+        names: [impl AsRef<[u8]>; N],
+    ) -> Result<[Option<&'m [u8]>; N], Refusal> {
+        let found = self.lookup_all(&names)?;
+        let child = |index: usize| found[index].map(|found| found.child_of(self.object));
+        Ok(std::array::from_fn(child))
+    }
+}
