@@ -1,9 +1,12 @@
 -- A search that is narrowed from above: from some field on, all come after the query. Assumes nothing.
 use Rattle.rules.proofs.Prelude.{_≡_, List, ℕ, _+_, _-_, _≤_, _<_, arith, pass}
-use Rattle.names.specs.Order.Says.{greater}
+use Rattle.names.specs.Order.{Before}
+use Rattle.names.specs.Order.Says.{less, equal, greater}
+use Rattle.names.specs.Search.{seek}
+use Rattle.names.specs.Search.Sought.{nowhere, here}
 use Rattle.names.specs.Steps.{KeyOf}
 use Rattle.names.proofs.Laws.{compare-of}
-use Rattle.names.proofs.Search.{Between, between-greater}
+use Rattle.names.proofs.Search.{Between, between-less, between-greater, between-equal, between-none}
 use Rattle.names.proofs.Keys.{key-before}
 use Rattle.object.specs.Object.{count, fieldName, checks}
 use Rattle.object.proofs.Laws.{names-rise}
@@ -30,3 +33,14 @@ module _ (d o q : List ℕ) where
       let inside : at + half < count o = omega arith in
       let b = between-greater (fieldName d o) q (count o) rising 0 (at + size) (at + half) (between (at + size) above) inside (compare-of (greater (key-before is other p))) in
       (omega arith, fewer-above (at + half) (at + (size - half)) (omega arith) (b .above))
+
+  -- the last field that may be the query's is below it, or it is the query's
+  module _ (passes : checks d o ≡ pass) (at : ℕ) (inside : at < count o) (above : AllAbove d o q (at + 1)) where
+    pub not-there : Before (fieldName d o at) q → seek (fieldName d o) q (count o) ≡ nowhere
+    not-there p =
+        let rising = names-rise d o passes in
+        let b = between-less (fieldName d o) q (count o) rising 0 (at + 1) at (between (at + 1) above) inside (compare-of (less p)) in
+        between-none (fieldName d o) q (count o) rising (at + 1) (at + 1) b (omega arith)
+
+    pub is-there : fieldName d o at ≡ q → seek (fieldName d o) q (count o) ≡ here at
+    is-there e = between-equal (fieldName d o) q (count o) (names-rise d o passes) 0 (at + 1) at (between (at + 1) above) inside (compare-of (equal e))

@@ -1,16 +1,19 @@
 -- What the steps of the lookup answer each other, in the words of ByName.antt. Assumes nothing.
 use mathlib.Core.Path.{_≡_}
 use mathlib.Core.List.{List, [], _∷_}
-use Prim.Native.Nat.{ℕ, _+_, _≤_, _<_}
+use Prim.Native.Nat.{ℕ, _+_, _%_, _≤_, _<_}
 use lib.ListN.{length}
 use Rattle.names.specs.Order.{Before}
 use Rattle.names.specs.Steps.{KeyOf}
+use Rattle.run.specs.Run.{begin, name}
 use Rattle.object.specs.Object.{count, offset, start, end, fieldName}
 use Rattle.names.specs.Search.{Sought}
 use Rattle.names.specs.Search.Sought.{nowhere, here}
 use Rattle.lookup.specs.declared.Search.{Search}
 use Rattle.lookup.specs.declared.Search.the-variants as search
 use Rattle.lookup.specs.declared.Place.{Place}
+use Rattle.lookup.specs.declared.Spot.{Spot}
+use Rattle.lookup.specs.declared.Two.{Two}
 use Rattle.lookup.specs.declared.Row.{Row}
 use Rattle.lookup.specs.ByName.{lookup, startOf, endOf}
 
@@ -29,15 +32,26 @@ pub record PlaceOf (d o q : List ℕ) (p : Place) : Type 0 where
 abbrev pub AllAbove : (d o q : List ℕ) → ℕ → Type 0
 AllAbove d o q from = (k : ℕ) → from ≤ k → k < count o → Before q (fieldName d o k)
 
--- and this one is the last that may be the query's, if there is a field
-pub record UpTo (d o q : List ℕ) (at : ℕ) : Type 0 where
-  pub inside : 0 < count o → at < count o
-  pub above : AllAbove d o q (at + 1)
-
 -- a step up was taken, or the name there has a key above the query's
 pub data Probed (name : List ℕ) (key at step : ℕ) : ℕ → Type 0 where
   taken : Probed name key at step (at + step)
   kept : {p : ℕ} → KeyOf name p → key < p → Probed name key at step at
+
+-- the field at the spot is the last that may be the query's, if there is a field
+pub record SpotOf (d o q : List ℕ) (s : Spot) : Type 0 where
+  pub key-is : KeyOf q (s .key)
+  pub inside : 0 < count o → s .at < count o
+  pub above : AllAbove d o q (s .at + 1)
+
+-- name k begins there
+pub record NameAt (ends : List ℕ) (k from : ℕ) : Type 0 where
+  pub is-name : k < length ends
+  pub begins : from ≡ begin ends k
+
+-- the spot of name k; and, of an even k, that of the name after it
+pub record SpotsOf (d o names ends : List ℕ) (k : ℕ) (t : Two) : Type 0 where
+  pub this : SpotOf d o (name names ends k) (t .first)
+  pub next : k % 2 ≡ 0 → k + 1 < length ends → SpotOf d o (name names ends (k + 1)) (t .second)
 
 -- what was found is a field whose child lies in the object
 abbrev pub InLayer : List ℕ → Sought → Type 0

@@ -2,21 +2,21 @@
 ghost use mathlib.Core.Path.{_≡_};
 ghost use mathlib.Core.Bool.{cond};
 ghost use mathlib.Core.List.{_++_};
-ghost use Prim.Native.Nat.{_+_, _*_, _≤_, _<_};
+ghost use Prim.Native.Nat.{_+_, _*_, _%_, _≤_, _<_};
 ghost use lib.Dec.{ltb};
 ghost use lib.ListN.{length, drop};
 ghost use lib.Seq.{sets};
 ghost use Rattle.rules.specs.Rules.{each};
-ghost use Rattle.rules.specs.Rules.Found.{pass};
 ghost use Rattle.names.specs.Order.{compareOf};
 ghost use Rattle.names.specs.Search.{seek};
-ghost use Rattle.run.specs.Run.{checks as endChecks};
+ghost use Rattle.run.specs.Run.{end as endOf, name};
+ghost use Rattle.run.specs.Meaning.{GoodEnds};
 ghost use Rattle.object.specs.Object.{count as countOf, offset as offsetOf, start as regionStart, end as trimmedEnd, fieldName};
 ghost use Rattle.object.specs.Steps.{LayerOf, Over, Opened};
-ghost use Rattle.lookup.specs.ByName.{found as foundAt, lookup};
+ghost use Rattle.lookup.specs.ByName.{found as foundAt};
 ghost use Rattle.lookup.specs.Many.{rowOf, row};
 ghost use Rattle.lookup.specs.Promises.{GetPromise, ChildPromise, GetAllPromise};
-ghost use Rattle.lookup.specs.Steps.{soughtOf, PlaceOf, AllAbove, UpTo, Probed, InLayer, wordsOf};
+ghost use Rattle.lookup.specs.Steps.{soughtOf, PlaceOf, AllAbove, Probed, SpotOf, NameAt, SpotsOf, InLayer, wordsOf};
 use object::Layer;
 
 pub enum Lookup {
@@ -169,7 +169,7 @@ pub fn child<'d, 'o, 'n>(dict: &'d [u8], object: &'o [u8], name: &'n [u8]) -> &'
 
 // `step` where the key p is not above the other, and 0 where it is. A branch would be guessed wrong as often as not; this takes none.
 fn climb(step: usize, key: usize, p: usize) -> usize
-    requires { ⌜ (key < 72057594037927936) × (p < 72057594037927936) ⌝ }
+    requires { ⌜ (key < 9223372036854775808) × (p < 9223372036854775808) ⌝ }
     ensures { λ r. ⌜ r ≡ cond (ltb key p) 0 step ⌝ }
 {
     step * ((names::KEYS + key - p) / names::KEYS)
@@ -185,7 +185,7 @@ fn probe(
     step: usize,
     key: usize,
 ) -> usize
-    requires { ⌜ Opened (now dict) h (now object) l × (at + step < countOf (now object)) × (key < 72057594037927936) ⌝ }
+    requires { ⌜ Opened (now dict) h (now object) l × (at + step < countOf (now object)) × (key < 9223372036854775808) ⌝ }
     ensures { λ r. ⌜ Probed (fieldName (now (dict .entry)) (now (object .entry)) (at + step)) key at step r ⌝ }
 {
     let id = object::id_at(object, l, at + step);
@@ -193,10 +193,15 @@ fn probe(
     at + climb(step, key, names::key(dict, field.start, field.end))
 }
 
-// For each of two names a field after which all come after it.
+// Where a name may be: at this field or before it. With the name's key.
+struct Spot {
+    at: usize,
+    key: usize,
+}
+
 struct Two {
-    first: usize,
-    second: usize,
+    first: Spot,
+    second: Spot,
 }
 
 // Two names at once, by their keys: neither search waits for the other's loads, and no branch depends on what is read.
@@ -209,7 +214,7 @@ fn narrow(
     second: &[u8],
 ) -> Two
     requires { ⌜ Opened (now dict) h (now object) l ⌝ }
-    ensures { λ r. ⌜ UpTo (now (dict .entry)) (now (object .entry)) (now (first .entry)) (r .first) × UpTo (now (dict .entry)) (now (object .entry)) (now (second .entry)) (r .second) ⌝ }
+    ensures { λ r. ⌜ SpotOf (now (dict .entry)) (now (object .entry)) (now (first .entry)) (r .first) × SpotOf (now (dict .entry)) (now (object .entry)) (now (second .entry)) (r .second) ⌝ }
 {
     let p = names::key(first, 0, first.len());
     let q = names::key(second, 0, second.len());
@@ -223,32 +228,40 @@ fn narrow(
         size -= half;
     }
     Two {
-        first: at,
-        second: other,
+        first: Spot { at, key: p },
+        second: Spot { at: other, key: q },
     }
 }
 
-// The field of that name, which is this one or, where names have their first eight bytes in common, one before it.
+// The field of that name: the one at the spot or, where names have their first seven bytes in common, one before it.
 fn settle(
     dict: &[u8],
     h: metadata::Header,
     object: &[u8],
     l: Layer,
     name: &[u8],
-    at: usize,
+    spot: Spot,
 ) -> Search
-    requires { ⌜ Opened (now dict) h (now object) l × UpTo (now dict) (now object) (now name) at ⌝ }
+    requires { ⌜ Opened (now dict) h (now object) l × SpotOf (now dict) (now object) (now name) spot ⌝ }
     ensures { λ r. ⌜ soughtOf r ≡ seek (fieldName (now (dict .entry)) (now (object .entry))) (now (name .entry)) (countOf (now (object .entry))) ⌝ }
 {
     if l.count == 0 {
         return Search::Nowhere;
     }
-    let order = compare_field(dict, h, object, l, at, name);
-    match order {
-        names::Order::Less => Search::Nowhere,
-        names::Order::Equal => Search::At(at),
-        names::Order::Greater => find(dict, h, object, l, name, at),
+    let id = object::id_at(object, l, spot.at);
+    let field = metadata::span_of(dict, h, id);
+    let a = field.start;
+    let e = field.end;
+    let key = names::key(dict, a, e);
+    if key < spot.key {
+        return Search::Nowhere;
     }
+    if key == spot.key {
+        if names::same_rest(&dict[a..e], name) {
+            return Search::At(spot.at);
+        }
+    }
+    find(dict, h, object, l, name, spot.at + 1)
 }
 
 // What a name's five words say.
@@ -296,45 +309,45 @@ fn write_row(words: &mut [u32], at: usize, row: Row)
     words[at + 4] = row.end;
 }
 
-// The rows of two names.
-fn write_two(
+// Where the name after name k ends; of the last name, where it ends itself.
+fn end_after(ends: &[u32], k: usize) -> usize
+    requires { ⌜ k < length (now ends) ⌝ }
+    ensures { λ r. ⌜ r ≡ cond (ltb (k + 1) (length (now (ends .entry)))) (endOf (now (ends .entry)) (k + 1)) (endOf (now (ends .entry)) k) ⌝ }
+{
+    if k + 1 < ends.len() {
+        return ends[k + 1] as usize;
+    }
+    ends[k] as usize
+}
+
+// The spot of name k, and of the one after it: of an even k both are searched, and of an odd k its own was found before.
+fn spots(
     dict: &[u8],
     h: metadata::Header,
     object: &[u8],
     l: Layer,
-    first: &[u8],
-    second: &[u8],
-    words: &mut [u32],
-    at: usize,
-)
-    requires { ⌜ Opened (now dict) h (now object) l × (at + 10 ≤ length (now words)) ⌝ }
-    ensures { λ _. ⌜ now (words .exit) ≡ sets (sets (now (words .entry)) at (rowOf (lookup (now (dict .entry)) (now (object .entry)) (now (first .entry))))) (at + 5) (rowOf (lookup (now (dict .entry)) (now (object .entry)) (now (second .entry)))) ⌝ }
+    names: &[u8],
+    ends: &[u32],
+    k: usize,
+    begin: usize,
+    before: Spot,
+) -> Two
+    requires { ⌜ Opened (now dict) h (now object) l × GoodEnds (now names) (now ends) × NameAt (now ends) k begin × (k % 2 ≡ 1 → SpotOf (now dict) (now object) (name (now names) (now ends) k) before) ⌝ }
+    ensures { λ r. ⌜ SpotsOf (now (dict .entry)) (now (object .entry)) (now (names .entry)) (now (ends .entry)) k r ⌝ }
 {
-    let two = narrow(dict, h, object, l, first, second);
-    let one = settle(dict, h, object, l, first, two.first);
-    let other = settle(dict, h, object, l, second, two.second);
-    write_row(words, at, row_of(object, l, one));
-    write_row(words, at + 5, row_of(object, l, other));
+    if k % 2 == 1 {
+        return Two {
+            first: before,
+            second: before,
+        };
+    }
+    let end = ends[k] as usize;
+    let next = end_after(ends, k);
+    let first = &names[begin..end];
+    narrow(dict, h, object, l, first, &names[end..next])
 }
 
-// The row of one name.
-fn write_one(
-    dict: &[u8],
-    h: metadata::Header,
-    object: &[u8],
-    l: Layer,
-    name: &[u8],
-    words: &mut [u32],
-    at: usize,
-)
-    requires { ⌜ Opened (now dict) h (now object) l × (at + 5 ≤ length (now words)) ⌝ }
-    ensures { λ _. ⌜ now (words .exit) ≡ sets (now (words .entry)) at (rowOf (lookup (now (dict .entry)) (now (object .entry)) (now (name .entry)))) ⌝ }
-{
-    let found = find(dict, h, object, l, name, l.count);
-    write_row(words, at, row_of(object, l, found));
-}
-
-// The rows of all names, two at a time; of an odd number the last is left.
+// The rows of all names.
 fn write_rows(
     dict: &[u8],
     h: metadata::Header,
@@ -344,26 +357,23 @@ fn write_rows(
     ends: &[u32],
     words: &mut [u32],
 )
-    requires { ⌜ Opened (now dict) h (now object) l × (endChecks (now names) (now ends) ≡ pass) × (5 * length (now ends) ≤ length (now words)) ⌝ }
+    requires { ⌜ Opened (now dict) h (now object) l × GoodEnds (now names) (now ends) × (5 * length (now ends) ≤ length (now words)) ⌝ }
     ensures { λ _. ⌜ now (words .exit) ≡ each (row (now (dict .entry)) (now (object .entry)) (now (names .entry)) (now (ends .entry))) (length (now (ends .entry))) ++ drop (5 * length (now (ends .entry))) (now (words .entry)) ⌝ }
 {
     let count = ends.len();
     let mut k = 0;
     let mut begin = 0;
     let mut at = 0;
-    while 2 <= count - k {
-        let middle = ends[k] as usize;
-        let end = ends[k + 1] as usize;
-        let first = &names[begin..middle];
-        let second = &names[middle..end];
-        write_two(dict, h, object, l, first, second, words, at);
-        at += 10;
-        begin = end;
-        k += 2;
-    }
-    if k < count {
+    let mut ahead = Spot { at: 0, key: 0 };
+    while k < count {
+        let two = spots(dict, h, object, l, names, ends, k, begin, ahead);
         let end = ends[k] as usize;
-        write_one(dict, h, object, l, &names[begin..end], words, at);
+        let found = settle(dict, h, object, l, &names[begin..end], two.first);
+        write_row(words, at, row_of(object, l, found));
+        ahead = two.second;
+        at += 5;
+        begin = end;
+        k += 1;
     }
 }
 
@@ -386,7 +396,7 @@ fn get_all_over(
     ends: &[u32],
     words: &mut [u32],
 ) -> Lookups
-    requires { ⌜ endChecks (now names) (now ends) ≡ pass ⌝ }
+    requires { ⌜ GoodEnds (now names) (now ends) ⌝ }
     ensures { λ r. ⌜ GetAllPromise (now (dict .entry)) (now (object .entry)) (now (names .entry)) (now (ends .entry)) (now (words .entry)) r (now (words .exit)) ⌝ }
 {
     let opening = object::open(dict, object);

@@ -26,7 +26,7 @@ is-same s t e = compare-equal s t (go (compareOf s t) e)
     go Equal e = refl
     go Greater e = let z : _≡_ {A = ℕ} 0 1 = cc in absurd (omega arith)
 
-not-same : (s t : List ℕ) → (s ≡ t → ⊥) → same s t ≡ false
+pub not-same : (s t : List ℕ) → (s ≡ t → ⊥) → same s t ≡ false
 not-same s t n = go (same s t) refl
   where
     go : (b : Bool) → same s t ≡ b → same s t ≡ false

@@ -85,7 +85,7 @@ module _ (s t : List ℕ) where
   compare-first i p q = rw (drop-cons s i 0 p, drop-cons t i 0 q)
 
   -- as the whole does, after bytes that are the same
-  alike-rest : (n : ℕ) → n ≤ length s → n ≤ length t → Alike s t n → compareOf s t ≡ compareOf (drop n s) (drop n t)
+  pub alike-rest : (n : ℕ) → n ≤ length s → n ≤ length t → Alike s t n → compareOf s t ≡ compareOf (drop n s) (drop n t)
   alike-rest zero p q a = refl
   alike-rest (suc n) p q a =
       alike-rest n (omega arith) (omega arith) (λ k h. a k (omega arith))

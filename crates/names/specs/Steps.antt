@@ -36,8 +36,8 @@ pub record Decides (s t : List ℕ) (shared r : ℕ) : Type 0 where
   pub inside : r + 8 ≤ shared
   pub last : Alike s t (r + 8) → r + 8 ≡ shared
 
--- r is a name's key: the number of its first seven bytes, with zeros where it is shorter
+-- r is a name's key: the number of its first seven bytes, with zeros where it is shorter; and seven bits 0 below these
 pub record KeyOf (s : List ℕ) (r : ℕ) : Type 0 where
-  pub is : r ≡ be s 0 7
-  pub small : r < 72057594037927936
+  pub is : r ≡ be s 0 7 * 128
+  pub small : r < 9223372036854775808
   pub octets : (k : ℕ) → getD s k 0 < 256

@@ -4,6 +4,7 @@ ghost use Prim.Native.Nat.{_+_, _≤_, _<_, min};
 ghost use lib.ListN.{length, getD};
 ghost use Rattle.part.specs.Part.{part};
 ghost use Rattle.names.specs.Steps.{be, Raw, orderOf, Alike, Decides, KeyOf};
+ghost use Rattle.names.specs.Search.{same};
 ghost use Rattle.names.specs.Promises.{ComparePromise, IsBelowPromise};
 
 pub enum Order {
@@ -74,6 +75,25 @@ fn alike(a: &[u8], b: &[u8], shared: usize) -> usize
         i += 8;
     }
     last
+}
+
+// Whether two names are the same whose first seven bytes are, with zeros where they are shorter.
+pub fn same_rest(a: &[u8], b: &[u8]) -> bool
+    requires { ⌜ Alike (now a) (now b) 7 ⌝ }
+    ensures { λ r. ⌜ r ≡ same (now (a .entry)) (now (b .entry)) ⌝ }
+{
+    let n = a.len();
+    if n != b.len() {
+        return false;
+    }
+    if n < 8 {
+        return true;
+    }
+    if raw(a, 0) != raw(b, 0) {
+        return false;
+    }
+    let i = alike(a, b, n);
+    raw(a, i) == raw(b, i)
 }
 
 // Both are read up to the length of the shorter one; where they agree that far, the lengths decide.
@@ -165,10 +185,11 @@ fn padded_half(s: &[u8], at: usize) -> usize
 }
 
 // All keys are below this.
-pub const KEYS: usize = 0x100_0000_0000_0000;
+pub const KEYS: usize = 0x8000_0000_0000_0000;
 
-// The key of the name that stands in `s` from one place to another: its first seven bytes as a number, with zeros where it is shorter. Keys
-// that differ are in the order of their names. No branch depends on the length, but for the last bytes of `s`.
+// The key of the name that stands in `s` from one place to another: its first seven bytes as a number, with zeros where it is shorter, and
+// seven bits 0 below these, so that eight bytes are loaded at once. Keys that differ are in the order of their names. No branch depends on the
+// length, but for the last bytes of `s`.
 pub fn key(s: &[u8], from: usize, to: usize) -> usize
     requires { ⌜ (from ≤ to) × (to ≤ length (now s)) ⌝ }
     ensures { λ r. ⌜ KeyOf (part (now (s .entry)) from to) r ⌝ }
@@ -176,9 +197,9 @@ pub fn key(s: &[u8], from: usize, to: usize) -> usize
     if s.len() - from < 8 {
         let name = &s[from..to];
         let eight = padded_half(name, 0) * 0x1_0000_0000 + padded_half(name, 4);
-        return eight / 256;
+        return eight / 256 * 128;
     }
-    let seven = word(s, from) / 256;
-    let past = 56 - 8 * least(to - from, 7);
-    seven >> past << past
+    let most = word(s, from) / 2;
+    let past = 63 - 8 * least(to - from, 7);
+    most >> past << past
 }

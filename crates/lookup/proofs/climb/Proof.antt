@@ -5,7 +5,7 @@ use Rattle.lookup.proofs.climb.Statement.{statement}
 use Rattle.lookup.proofs.climb.Tie as tie
 
 abbrev keys : ℕ
-keys = 72057594037927936
+keys = 9223372036854775808
 
 climbed : (step key p : ℕ) → key < keys → p < keys → (step * ((keys + key - p) / keys) ≡ cond (ltb key p) 0 step) × (step * ((keys + key - p) / keys) ≤ step)
 climbed step key p u v = go (decLt key p)

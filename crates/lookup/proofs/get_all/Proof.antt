@@ -1,6 +1,7 @@
 -- `lookup::get_all` meets its contract: 45, or what comes over good ends. Assumes nothing.
 use Rattle.rules.proofs.Prelude.{sym, _∙_, ap, needs, refused, stops}
 use Rattle.run.specs.Promises.{foundOf}
+use Rattle.run.proofs.Means.{good}
 use Rattle.lookup.specs.Many.{manyChecks, lookups, rowsAfter}
 use Rattle.lookup.proofs.get_all.Statement.{statement}
 use Rattle.lookup.proofs.get_all.Tie as tie
@@ -11,7 +12,7 @@ get-all-spec =
     tie.close
     (tie.spec
     (λ c κs. search needs) (λ c. search needs) (λ c. search needs)
-    (λ c κs. sym (c .before .before .before .check .ensures) ∙ ap foundOf (c .before .enum-told .given .1))  -- get-all-over-requires
+    (λ c κs. good _ _ .0 (sym (c .before .before .before .check .ensures) ∙ ap foundOf (c .before .enum-told .given .1)))  -- get-all-over-requires
     (λ c. let e = stops _ (sym (c .before .before .before .check .ensures) ∙ ap foundOf (c .before .checked .given .1)) in
     record { answers = sym (refused _ e); leaves = rw e })  -- returns
     (λ c. search needs) (λ c. search needs))

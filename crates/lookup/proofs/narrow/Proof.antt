@@ -43,7 +43,15 @@ narrow-spec =
     let one = narrowed _ _ _ passes p-is (l .at) (l .size) (l .size / 2) _ (omega arith) (omega arith) (l .inv .1 .inside) (l .inv .1 .above) (c .before .probe .ensures) in
     let two = narrowed _ _ _ passes q-is (l .other) (l .size) (l .size / 2) _ (omega arith) (omega arith) (l .inv .2 .inside) (l .inv .2 .above) (c .probe2 .ensures) in
     (λ p. omega arith, record { inside = one .0; above = one .1 }, record { inside = two .0; above = two .1 }))  -- loop-again
-    (λ c. let l = c .before .loop in (
-      record { inside = λ p. omega (arith, l .inv .0 p, l .inv .1 .inside); above = fewer-above _ _ _ _ _ (omega arith) (l .inv .1 .above) },
-      record { inside = λ p. omega (arith, l .inv .0 p, l .inv .2 .inside); above = fewer-above _ _ _ _ _ (omega arith) (l .inv .2 .above) },
+    (λ c. let l = c .before .loop in let a = c .before .before .before .before .before .before .before .before .args in (
+      record {
+        key-is = rw (part-whole (a .first .now)) at (c .before .before .before .key .ensures);
+        inside = λ p. omega (arith, l .inv .0 p, l .inv .1 .inside);
+        above = fewer-above _ _ _ _ _ (omega arith) (l .inv .1 .above);
+      },
+      record {
+        key-is = rw (part-whole (a .second .now)) at (c .before .before .key2 .ensures);
+        inside = λ p. omega (arith, l .inv .0 p, l .inv .2 .inside);
+        above = fewer-above _ _ _ _ _ (omega arith) (l .inv .2 .above);
+      },
     )))  -- returns

@@ -1,5 +1,4 @@
 -- `names::key` meets its contract: the first of seven bytes, or byte by byte at the end. Assumes nothing.
-use Prim.Native.Nat.{_+_}
 use native.Mathlib.Omega.{arith}
 use borrow.Author.Needs.{needs}
 use Rattle.part.specs.Part.{part}
@@ -13,7 +12,7 @@ key-spec =
     tie.close
     (tie.spec
     (λ c. search needs) (λ c. search needs) (λ c. search needs) (λ c. search needs)
-    (λ c κs. search needs) (λ c. search needs) (λ c κs. search needs) (λ c. search needs)
+    (λ c κs. search needs) (λ c. search needs) (λ c κs. search needs) (λ c. search needs) (λ c. omega arith)
     (λ c. let a = c .before .before .before .before .before .args in
     let name = part (a .s .now) (a .from) (a .to) in
     let octets = part-octets (a .s .now) (a .from) (a .to) (small (a .s .now) (c .before .before .before .before .shared-slice-known .given)) in
@@ -23,4 +22,4 @@ key-spec =
     (λ c. let a = c .before .before .before .before .args in
     let octets = small (a .s .now) (c .before .before .before .shared-slice-known .given) in
     key-of (part (a .s .now) (a .from) (a .to)) (part-octets (a .s .now) (a .from) (a .to) octets)
-    (key-shifted (a .s .now) (a .from) octets (a .to) _ (omega arith) (omega arith) (omega (arith, be-seven (a .s .now) (a .from), octets (a .from + 7))))))  -- returns-2
+    (key-shifted (a .s .now) (a .from) octets (a .to) _ (omega arith) (omega arith) (omega arith))))  -- returns-2
