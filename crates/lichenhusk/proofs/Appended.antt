@@ -1,15 +1,18 @@
 -- Bytes added to the dictionary, to the object or to both, within the limit: what a call returned and left meets its promise for the more
 -- bytes too, so that it returns and leaves the same (Pinned), unless the code was "empty" or "short". Assumes nothing.
 use Rattle.rules.proofs.Prelude.{_≡_, _∙_, List, _++_, ℕ, _≤_, _<_, decLt, arith, lt-ltb, le-ltb, length, Answer, codeOf}
+use Rattle.run.specs.Meaning.{GoodEnds}
 use Rattle.metadata.specs.Limits.{limit}
 use Rattle.metadata.proofs.Appended.{appended, name-appended}
 use Rattle.object.proofs.Appended.{Settled, verdict-appended}
 use Rattle.lookup.proofs.Appended.{lookup-appended}
-use Rattle.listing.specs.Words.{listed, wordsAfter as filled}
+use Rattle.lookup.specs.Many.{lookups}
+use Rattle.lookup.proofs.ManyAppended.{lookups-appended, rows-appended, run-appended, rows-run-appended}
+use Rattle.listing.specs.Words.{listed}
 use Rattle.listing.proofs.Appended.{listed-appended, words-appended}
 use Rattle.words.specs.Shapes.{Shape, wordsOf, lookupShape, layerShape, dictionaryShape, nameShape, stripBytes}
 use Rattle.lichenhusk.specs.Strip.{returned, stripAfter, filledAfter}
-use Rattle.lichenhusk.specs.Promises.{Left, DictionaryPromise, NamePromise, LayerPromise, LookupPromise, ListPromise}
+use Rattle.lichenhusk.specs.Promises.{Left, Filled, DictionaryPromise, NamePromise, LayerPromise, LookupPromise, ListPromise, AllPromise}
 use Rattle.lichenhusk.proofs.Carries.{first-is}
 
 -- an answer that its code keeps is left as it was; with 40 nothing is looked at
@@ -21,6 +24,17 @@ module _ (shape : Shape) (strip : List ℕ) (x y : Answer) {code : ℕ} {after :
       go : Dec (length strip < stripBytes) → Left strip (wordsOf shape y) code after
       go (yes h) = let t = lt-ltb (length strip) stripBytes h in record { returns = rw t (rw t at (l .returns)); leaves = rw t (rw t at (l .leaves)) }
       go (no h) = let t = le-ltb (length strip) stripBytes (omega arith) in rw (same ((rw t at (l .returns)) ∙ first-is shape x)) l
+
+  -- with the words that a call fills
+  keeps-filled : {lent f g lentAfter : List ℕ} → (code ≡ codeOf x → (y ≡ x) × (g ≡ f)) → Filled strip (wordsOf shape x) lent f code after lentAfter
+      → Filled strip (wordsOf shape y) lent g code after lentAfter
+  unfolding filledAfter returned
+  keeps-filled {lent} {f} {g} same p =
+      record { strip-left = keeps (λ c. same c .0) (p .strip-left); words-left = p .words-left ∙ go (decLt (length strip) stripBytes) }
+    where
+      go : Dec (length strip < stripBytes) → filledAfter strip lent f ≡ filledAfter strip lent g
+      go (yes h) = rw (lt-ltb (length strip) stripBytes h)
+      go (no h) = let long = le-ltb (length strip) stripBytes (omega arith) in rw (long, same ((rw long at (p .strip-left .returns)) ∙ first-is shape x) .1)
 
 -- THE THEOREMS, by the code that was returned
 module _ (d t strip : List ℕ) (fits : length (d ++ t) ≤ limit) {code : ℕ} {after : List ℕ} where
@@ -38,15 +52,21 @@ module _ (d t strip : List ℕ) (fits : length (d ++ t) ≤ limit) {code : ℕ} 
     lookup-kept q = keeps lookupShape strip _ _ (λ c. lookup-appended d t o u q fits object-fits (rw c at settled))
 
     pub list-kept : (w wordsAfter : List ℕ) → ListPromise d o w strip code after wordsAfter → ListPromise (d ++ t) (o ++ u) w strip code after wordsAfter
-    unfolding filledAfter returned
-    list-kept w wordsAfter p = record {
-      strip-left = keeps layerShape strip _ _ (λ c. listed-appended d t o u w fits object-fits (rw c at settled)) (p .strip-left);
-      words-left = p .words-left ∙ go (decLt (length strip) stripBytes);
-    }
-      where
-        go : Dec (length strip < stripBytes) → filledAfter strip w (filled d o w) ≡ filledAfter strip w (filled (d ++ t) (o ++ u) w)
-        go (yes h) = rw (lt-ltb (length strip) stripBytes h)
-        go (no h) =
-            let long = le-ltb (length strip) stripBytes (omega arith) in
-            let c = (rw long at (p .strip-left .returns)) ∙ first-is layerShape (listed d o w) in
-            let kept : Settled (codeOf (listed d o w)) = rw c at settled in rw (long, words-appended d t o u w fits object-fits kept)
+    list-kept w wordsAfter =
+        keeps-filled layerShape strip _ _
+        (λ c. let kept : Settled (codeOf (listed d o w)) = rw c at settled in (listed-appended d t o u w fits object-fits kept, words-appended d t o u w fits object-fits kept))
+
+    pub all-kept : (names ends w wordsAfter : List ℕ) → AllPromise d o names ends w strip code after wordsAfter
+        → AllPromise (d ++ t) (o ++ u) names ends w strip code after wordsAfter
+    all-kept names ends w wordsAfter =
+        keeps-filled layerShape strip _ _
+        (λ c. let kept : Settled (codeOf (lookups d o names ends w)) = rw c at settled in (
+          lookups-appended d t o u names ends w fits object-fits kept,
+          rows-appended d t o u names ends w fits object-fits kept,
+        ))
+
+-- bytes after the last end: where the ends are good, they are ignored
+pub run-kept : (d o names more ends w strip : List ℕ) → GoodEnds names ends → (code : ℕ) (after wordsAfter : List ℕ)
+    → AllPromise d o names ends w strip code after wordsAfter → AllPromise d o (names ++ more) ends w strip code after wordsAfter
+run-kept d o names more ends w strip good code after wordsAfter =
+    keeps-filled layerShape strip _ _ (λ c. (run-appended d o names more ends w good, rows-run-appended d o names more ends w good))

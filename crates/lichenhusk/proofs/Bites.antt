@@ -1,6 +1,6 @@
--- None of document 01's six wrong versions meets its promise, nor one for request c), by the worked cases: a function that meets it and is one
--- of them cannot be. Assumes nothing.
-use Rattle.rules.proofs.Prelude.{_≡_, ap, List, [], _∷_, ℕ, arith, getD, replicate, accept}
+-- None of document 01's six wrong versions meets its promise, nor one for request c), nor one for many names, by the worked cases: a function
+-- that meets it and is one of them cannot be. Assumes nothing.
+use Rattle.rules.proofs.Prelude.{_≡_, ap, _∙_, List, [], _∷_, ℕ, arith, getD, replicate, accept}
 use denote.Ref.{RefT}
 use Rattle.metadata.specs.declared.Refusal.the-variants.{Short}
 use Rattle.metadata.specs.declared.Verdict.{Verdict}
@@ -10,11 +10,13 @@ use Rattle.metadata.proofs.Pinned.{check-pinned}
 use Rattle.lookup.specs.declared.Lookup.{Lookup}
 use Rattle.lookup.specs.declared.Lookup.the-variants as lookup
 use Rattle.lookup.specs.ByName as by-name
-use Rattle.lookup.specs.Promises.{GetPromise, ChildPromise}
+use Rattle.lookup.specs.declared.Lookups.{Lookups}
+use Rattle.lookup.specs.Meaning.{rowAt}
+use Rattle.lookup.specs.Promises.{GetPromise, ChildPromise, GetAllPromise}
 use Rattle.lookup.proofs.Pinned.{get-pinned}
 use Rattle.listing.specs.declared.Listing.{Listing}
 use Rattle.listing.specs.Promises.{ListPromise}
-use Rattle.lichenhusk.specs.Worked.{Told, D, P, alone, flow, roll}
+use Rattle.lichenhusk.specs.Worked.{Told, D, P, alone, flow, roll, run}
 use Rattle.lichenhusk.specs.Worked.Told.{leaves}
 use Rattle.lichenhusk.proofs.Worked.{worked}
 
@@ -76,6 +78,17 @@ not-as-lent list after meets wrong =
     let is = ap (at 10) worked in
     let says = rw (wrong D P lent) at (meets D P lent .leaves) in
     let z : _≡_ {A = ℕ} 0 8 = cc in omega arith
+
+-- one that asks for the first name again
+pub not-the-first : (all : (d o names ends words : List ℕ) → Lookups) (after : (d o names ends words : List ℕ) → List ℕ)
+    → ((d o names ends w : List ℕ) → GetAllPromise d o names ends w (all d o names ends w) (after d o names ends w))
+    → ((d o names ends w : List ℕ) → rowAt (after d o names ends w) 1 ≡ rowAt (after d o names ends w) 0) → ⊥
+not-the-first all after meets wrong =
+    let ends : List ℕ = 4 ∷ 7 ∷ 11 ∷ [] in
+    let is = ap (at 19) worked in
+    let left : after D P run ends (replicate 16 9) ≡ 0 ∷ 0 ∷ 0 ∷ 8 ∷ 10 ∷ 1 ∷ 0 ∷ 0 ∷ 0 ∷ 0 ∷ 0 ∷ 1 ∷ 1 ∷ 7 ∷ 10 ∷ 9 ∷ [] = meets D P run ends (replicate 16 9) .leaves ∙ cc in
+    let same = rw left at (wrong D P run ends (replicate 16 9)) in
+    let z : _≡_ {A = ℕ} 0 1 = cc in omega arith
 
 -- one that hands back the whole object as child
 pub not-the-whole : (child : List ℕ → RefT (List ℕ) → List ℕ → RefT (List ℕ))

@@ -2,16 +2,17 @@
 -- an accepted object cut likewise, 21 or 23; and a listing's words stay as they were lent. Assumes nothing.
 use Rattle.rules.proofs.Prelude.{_≡_, refl, _∙_, Bool, true, false, cond, _⊎_, ⊎-elim, inl, inr, List, [], _∷_, ℕ, _<_, ltb, length, take, Answer, accept}
 use Rattle.rules.proofs.Prelude.{refuse, RefusedAs}
+use Rattle.run.specs.Meaning.{GoodEnds}
 use Rattle.metadata.specs.Dictionary as dictionary
 use Rattle.metadata.proofs.Cut as dictionary-cuts
 use Rattle.object.specs.Object as object
 use Rattle.object.proofs.Cut as object-cuts
 use Rattle.lookup.proofs.Cut as lookup-cuts
-use Rattle.listing.specs.Words.{wordsAfter}
+use Rattle.lookup.proofs.ManyCut as many-cuts
 use Rattle.listing.proofs.Cut as listing-cuts
 use Rattle.words.specs.Shapes.{Shape, wordsOf, lookupShape, layerShape, dictionaryShape, nameShape, refusalWords, stripBytes}
 use Rattle.lichenhusk.specs.Strip.{filledAfter}
-use Rattle.lichenhusk.specs.Promises.{Left, DictionaryPromise, NamePromise, LayerPromise, LookupPromise, ListPromise}
+use Rattle.lichenhusk.specs.Promises.{Left, DictionaryPromise, NamePromise, LayerPromise, LookupPromise, ListPromise, AllPromise}
 
 -- the words of one of two refusals at place 0
 abbrev pub LeftAs : (empty short : ℕ) → List ℕ → ℕ → List ℕ → Type 0
@@ -50,6 +51,11 @@ module _ (strip : List ℕ) (m : ℕ) {code : ℕ} {after : List ℕ} where
     list-cut o w left p =
         let c = listing-cuts.dictionary-cut d o w m n e accepted cut in (of-words layerShape strip _ (c .0) (p .strip-left), p .words-left ∙ as-lent w strip (c .1))
 
+    pub all-cut : (o names ends w left : List ℕ) → GoodEnds names ends → AllPromise (take m d) o names ends w strip code after left
+        → LeftAs 11 13 strip code after × (left ≡ w)
+    all-cut o names ends w left good p =
+        let c = many-cuts.dictionary-cut names ends w good d o m n e accepted cut in (of-words layerShape strip _ (c .0) (p .strip-left), p .words-left ∙ as-lent w strip (c .1))
+
   -- THE OBJECT CUT
   module _ (d o : List ℕ) (n v e : ℕ) (accepted : object.verdict d o ≡ accept (n ∷ v ∷ e ∷ [])) (cut : m < e) where
     pub layer-object-cut : LayerPromise d (take m o) strip code after → LeftAs 21 23 strip code after
@@ -61,3 +67,8 @@ module _ (strip : List ℕ) (m : ℕ) {code : ℕ} {after : List ℕ} where
     pub list-object-cut : (w left : List ℕ) → ListPromise d (take m o) w strip code after left → LeftAs 21 23 strip code after × (left ≡ w)
     list-object-cut w left p =
         let c = listing-cuts.object-cut d o w m n v e accepted cut in (of-words layerShape strip _ (c .0) (p .strip-left), p .words-left ∙ as-lent w strip (c .1))
+
+    pub all-object-cut : (names ends w left : List ℕ) → GoodEnds names ends → AllPromise d (take m o) names ends w strip code after left
+        → LeftAs 21 23 strip code after × (left ≡ w)
+    all-object-cut names ends w left good p =
+        let c = many-cuts.object-cut names ends w good d o m n v e accepted cut in (of-words layerShape strip _ (c .0) (p .strip-left), p .words-left ∙ as-lent w strip (c .1))

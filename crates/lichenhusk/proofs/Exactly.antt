@@ -25,7 +25,7 @@ use Rattle.lichenhusk.proofs.Tells.{dictionary-said, name-said, layer-s
 
 module _ (strip : List ℕ) (enough : stripBytes ≤ length strip) {code : ℕ} {after : List ℕ} where
   -- where only the answer's words say what is so
-  exactly : (Says : List ℕ → Type 0) (shape : Shape) (x : Answer) → Said Says (wordsOf shape x) → ((words : List ℕ) → Says words → wordsOf shape x ≡ words)
+  pub exactly : (Says : List ℕ → Type 0) (shape : Shape) (x : Answer) → Said Says (wordsOf shape x) → ((words : List ℕ) → Says words → wordsOf shape x ≡ words)
       → Left strip (wordsOf shape x) code after → (words : List ℕ) → (wordsIn after ≡ words) ↔ Says words
   exactly Says shape x said only left words =
       let read = carried shape x left enough (said .0) in

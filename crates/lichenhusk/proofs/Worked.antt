@@ -9,7 +9,9 @@ use Rattle.names.specs.Search.{same, seek}
 use Rattle.metadata.specs.Limits.{limit, u32Max}
 use Rattle.metadata.specs.Dictionary as dictionary
 use Rattle.object.specs.Object as object
+use Rattle.run.specs.Run as run
 use Rattle.lookup.specs.ByName as by-name
+use Rattle.lookup.specs.Many as many
 use Rattle.listing.specs.Words as listing
 use Rattle.words.specs.Shapes.{bytesOfWords}
 use Rattle.lichenhusk.specs.Strip.{stripAfter}
@@ -22,5 +24,5 @@ unfolding le bytesOf upTo leadOf tailsOf char textUpTo begins isCut compareOf be
     dictionary.region dictionary.name dictionary.entryRules dictionary.checks dictionary.verdict
     object.basicType object.offsetWidth object.idWidth object.countWidth object.count object.idsStart object.id object.offsetsStart
     object.offset object.start object.end object.fieldName object.nameRules object.offsetRules object.checks object.verdict
-    by-name.lookup listing.leastAbove listing.span listing.row listing.listChecks listing.wordsAfter bytesOfWords stripAfter
+    by-name.lookup run.begin run.name run.endRules run.checks many.row many.manyChecks many.lookups many.rowsAfter listing.leastAbove listing.span listing.row listing.listChecks listing.wordsAfter bytesOfWords stripAfter
 worked = refl

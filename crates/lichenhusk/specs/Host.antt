@@ -10,7 +10,12 @@ use Rattle.part.specs.Part.{part}
 use Rattle.metadata.specs.Dictionary.{emptyBytes}
 use Rattle.metadata.specs.Meaning as dictionary
 use Rattle.object.specs.Meaning.{Layer, Refusal}
-use Rattle.lookup.specs.Meaning.{Found, Absent}
+use Rattle.run.specs.Run.{name}
+use Rattle.run.specs.Meaning.{BadEnd}
+use Rattle.lookup.specs.ByName.{lookup}
+use Rattle.lookup.specs.Many.{rowOf}
+use Rattle.lookup.specs.Meaning as many
+use Rattle.lookup.specs.Meaning.{Found, Absent, Answered, RefusedAfter, rowAt}
 use Rattle.listing.specs.Words.{rows}
 use Rattle.listing.specs.Meaning.{Listed, NoRoom}
 use Rattle.words.specs.Shapes.{refusalWords, stripBytes}
@@ -44,6 +49,13 @@ pub data ListSays (d o words : List ℕ) : List ℕ → Type 0 where
   no-room : NoRoom d o words → ListSays d o words (refusalWords 41 0)
   refused : {c p : ℕ} → 10 ≤ c → c < 28 → Refusal d o c p → ListSays d o words (refusalWords c p)
 
+-- of many names; 45 is checked first
+pub data AllSays (d o names ends words : List ℕ) : List ℕ → Type 0 where
+  answered : {n v e : ℕ} → Answered d o names ends words n v e → AllSays d o names ends words (0 ∷ n ∷ 0 ∷ v ∷ e ∷ 0 ∷ [])
+  bad-end : {k : ℕ} → BadEnd names ends k → AllSays d o names ends words (refusalWords 45 k)
+  no-room : many.NoRoom d o names ends words → AllSays d o names ends words (refusalWords 41 0)
+  refused : {c p : ℕ} → 10 ≤ c → c < 28 → RefusedAfter d o names ends c p → AllSays d o names ends words (refusalWords c p)
+
 -- WHAT A CALL TELLS
 
 -- word k of a strip, as the host reads it
@@ -61,6 +73,12 @@ pub record Tells (Says : List ℕ → Type 0) (strip : List ℕ) (code : ℕ) (a
 -- the words lent to a listing are filled with 0, and as they were with any other code
 pub record Fills (o words : List ℕ) (code : ℕ) (after wordsAfter : List ℕ) : Type 0 where
   pub filled : code ≡ 0 → wordsAfter ≡ rows o (word after 1) ++ drop (3 * word after 1) words
+  pub kept : (code ≡ 0 → ⊥) → wordsAfter ≡ words
+
+-- and those lent for many names: with 0 the five words of name k are what a lookup of it alone answers, and the words after all rows stay
+pub record FillsAll (d o names ends words : List ℕ) (code : ℕ) (wordsAfter : List ℕ) : Type 0 where
+  pub filled : code ≡ 0 → (k : ℕ) → k < length ends → rowAt wordsAfter k ≡ rowOf (lookup d o (name names ends k))
+  pub past : code ≡ 0 → drop (5 * length ends) wordsAfter ≡ drop (5 * length ends) words
   pub kept : (code ≡ 0 → ⊥) → wordsAfter ≡ words
 
 -- the empty dictionary's code and room

@@ -1,12 +1,13 @@
--- Document 01's starred worked cases, then those of document 02's requests, in one table: what is asked, and what the document says.
+-- Document 01's starred worked cases, then those of document 02's requests and of many names at one check, in one table: what is asked, and what the document says.
 -- proofs/Worked.antt proves that the definitions say the same. Assumes nothing.
-use mathlib.Core.List.{List, [], _∷_}
+use mathlib.Core.List.{List, [], _∷_, _++_}
 use Prim.Native.Nat.{ℕ}
 use lib.ListN.{replicate}
 use Rattle.rules.specs.Rules.{Answer, refuse, accept}
 use Rattle.metadata.specs.Dictionary as dictionary
 use Rattle.object.specs.Object as object
 use Rattle.lookup.specs.ByName as by-name
+use Rattle.lookup.specs.Many as many
 use Rattle.listing.specs.Words.{wordsAfter}
 use Rattle.lichenhusk.specs.Strip.{lookupWords, stripAfter}
 
@@ -16,6 +17,8 @@ pub data Asked : Type 0 where
   layer : (d o : List ℕ) → Asked
   lookup : (d o q : List ℕ) → Asked
   listing : (d o words : List ℕ) → Asked
+  lookups : (d o names ends words : List ℕ) → Asked
+  rows : (d o names ends words : List ℕ) → Asked
   strip : (d o q bytes : List ℕ) → Asked
 
 -- what is told: an answer, or what is left in the lent words or bytes
@@ -29,6 +32,8 @@ tell (verdict d) = answers (dictionary.verdict d)
 tell (layer d o) = answers (object.verdict d o)
 tell (lookup d o q) = answers (by-name.lookup d o q)
 tell (listing d o words) = leaves (wordsAfter d o words)
+tell (lookups d o names ends words) = answers (many.lookups d o names ends words)
+tell (rows d o names ends words) = leaves (many.rowsAfter d o names ends words)
 tell (strip d o q bytes) = leaves (stripAfter bytes (lookupWords d o q))
 
 -- D holds "flow" and "roll"
@@ -51,7 +56,12 @@ rol = 0x72 ∷ 0x6F ∷ 0x6C ∷ []
 abbrev pub roll : List ℕ
 roll = 0x72 ∷ 0x6F ∷ 0x6C ∷ 0x6C ∷ []
 
--- THE TABLE, with the ids and the strip of request c); the last two rows are request b)'s and one for request c), where field and id differ
+-- "flow", "rol" and "roll" in a run, with two bytes after them
+abbrev pub run : List ℕ
+run = flow ++ rol ++ roll ++ 0x2E ∷ 0x2E ∷ []
+
+-- THE TABLE, with the ids and the strip of request c); then request b)'s row, one for request c), where field and id differ, and those of many
+-- names: their rows, a word that stays, an end that falls, one that passes the run, and a word too few
 abbrev pub starred : List (Asked × Told)
 starred =
     (verdict (0x01 ∷ 0x00 ∷ 0x00 ∷ []), answers (accept (0 ∷ 3 ∷ [])))
@@ -76,4 +86,10 @@ starred =
     ∷ (layer D (0x02 ∷ 0x01 ∷ 0x00 ∷ 0x02 ∷ 0x01 ∷ 0x00 ∷ []), answers (refuse 27 0))
     ∷ (verdict (0x01 ∷ 0x01 ∷ 0x00 ∷ 0x01 ∷ 0xC3 ∷ []), answers (refuse 19 0))
     ∷ (lookup D alone roll, answers (accept (0 ∷ 1 ∷ 5 ∷ 6 ∷ [])))
+    ∷ (rows D P run (4 ∷ 7 ∷ 11 ∷ []) (replicate 16 9), leaves (0 ∷ 0 ∷ 0 ∷ 8 ∷ 10 ∷ 1 ∷ 0 ∷ 0 ∷ 0 ∷ 0 ∷ 0 ∷ 1 ∷ 1 ∷ 7 ∷ 10 ∷ 9 ∷ []))
+    ∷ (lookups D P run (4 ∷ 7 ∷ 11 ∷ []) (replicate 16 9), answers (accept (2 ∷ 7 ∷ 10 ∷ [])))
+    ∷ (lookups D P run (4 ∷ 3 ∷ 11 ∷ []) (replicate 15 9), answers (refuse 45 1))
+    ∷ (lookups [] P run (4 ∷ 7 ∷ 14 ∷ []) [], answers (refuse 45 2))
+    ∷ (lookups [] P run (4 ∷ 7 ∷ 11 ∷ []) [], answers (refuse 11 0))
+    ∷ (lookups D P run (4 ∷ 7 ∷ 11 ∷ []) (replicate 14 9), answers (refuse 41 0))
     ∷ []
