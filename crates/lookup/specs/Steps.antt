@@ -13,7 +13,7 @@ use Rattle.lookup.specs.declared.Search.{Search}
 use Rattle.lookup.specs.declared.Search.the-variants as search
 use Rattle.lookup.specs.declared.Place.{Place}
 use Rattle.lookup.specs.declared.Spot.{Spot}
-use Rattle.lookup.specs.declared.Two.{Two}
+use Rattle.lookup.specs.declared.Four.{Four}
 use Rattle.lookup.specs.declared.Row.{Row}
 use Rattle.lookup.specs.ByName.{lookup, startOf, endOf}
 
@@ -48,10 +48,18 @@ pub record NameAt (ends : List ℕ) (k from : ℕ) : Type 0 where
   pub is-name : k < length ends
   pub begins : from ≡ begin ends k
 
--- the spot of name k; and, of an even k, that of the name after it
-pub record SpotsOf (d o names ends : List ℕ) (k : ℕ) (t : Two) : Type 0 where
+-- the spot of name k; and those of the names after it in its four
+pub record SpotsOf (d o names ends : List ℕ) (k : ℕ) (t : Four) : Type 0 where
   pub this : SpotOf d o (name names ends k) (t .first)
-  pub next : k % 2 ≡ 0 → k + 1 < length ends → SpotOf d o (name names ends (k + 1)) (t .second)
+  pub next : k % 4 ≤ 2 → k + 1 < length ends → SpotOf d o (name names ends (k + 1)) (t .second)
+  pub third : k % 4 ≤ 1 → k + 2 < length ends → SpotOf d o (name names ends (k + 2)) (t .third)
+  pub fourth : k % 4 ≡ 0 → k + 3 < length ends → SpotOf d o (name names ends (k + 3)) (t .fourth)
+
+-- what was found before of them, where name k is not the first of its four
+pub record Ahead (d o names ends : List ℕ) (k : ℕ) (t : Four) : Type 0 where
+  pub this : 1 ≤ k % 4 → k < length ends → SpotOf d o (name names ends k) (t .first)
+  pub next : 1 ≤ k % 4 → k % 4 ≤ 2 → k + 1 < length ends → SpotOf d o (name names ends (k + 1)) (t .second)
+  pub third : k % 4 ≡ 1 → k + 2 < length ends → SpotOf d o (name names ends (k + 2)) (t .third)
 
 -- what was found is a field whose child lies in the object
 abbrev pub InLayer : List ℕ → Sought → Type 0

@@ -2,7 +2,7 @@
 ghost use mathlib.Core.Path.{_≡_};
 ghost use mathlib.Core.Bool.{cond};
 ghost use mathlib.Core.List.{_++_};
-ghost use Prim.Native.Nat.{_+_, _*_, _%_, _≤_, _<_};
+ghost use Prim.Native.Nat.{_+_, _-_, _*_, _≤_, _<_};
 ghost use lib.Dec.{ltb};
 ghost use lib.ListN.{length, drop};
 ghost use lib.Seq.{sets};
@@ -16,7 +16,7 @@ ghost use Rattle.object.specs.Steps.{LayerOf, Over, Opened};
 ghost use Rattle.lookup.specs.ByName.{found as foundAt};
 ghost use Rattle.lookup.specs.Many.{rowOf, row};
 ghost use Rattle.lookup.specs.Promises.{GetPromise, ChildPromise, GetAllPromise};
-ghost use Rattle.lookup.specs.Steps.{soughtOf, PlaceOf, AllAbove, Probed, SpotOf, NameAt, SpotsOf, InLayer, wordsOf};
+ghost use Rattle.lookup.specs.Steps.{soughtOf, PlaceOf, AllAbove, Probed, SpotOf, NameAt, SpotsOf, Ahead, InLayer, wordsOf};
 use object::Layer;
 
 pub enum Lookup {
@@ -199,12 +199,14 @@ struct Spot {
     key: usize,
 }
 
-struct Two {
+struct Four {
     first: Spot,
     second: Spot,
+    third: Spot,
+    fourth: Spot,
 }
 
-// Two names at once, by their keys: neither search waits for the other's loads, and no branch depends on what is read.
+// Four names at once, by their keys: no search waits for another's loads, and no branch depends on what is read.
 fn narrow(
     dict: &[u8],
     h: metadata::Header,
@@ -212,24 +214,34 @@ fn narrow(
     l: Layer,
     first: &[u8],
     second: &[u8],
-) -> Two
+    third: &[u8],
+    fourth: &[u8],
+) -> Four
     requires { ⌜ Opened (now dict) h (now object) l ⌝ }
-    ensures { λ r. ⌜ SpotOf (now (dict .entry)) (now (object .entry)) (now (first .entry)) (r .first) × SpotOf (now (dict .entry)) (now (object .entry)) (now (second .entry)) (r .second) ⌝ }
+    ensures { λ r. ⌜ SpotOf (now (dict .entry)) (now (object .entry)) (now (first .entry)) (r .first) × SpotOf (now (dict .entry)) (now (object .entry)) (now (second .entry)) (r .second) × SpotOf (now (dict .entry)) (now (object .entry)) (now (third .entry)) (r .third) × SpotOf (now (dict .entry)) (now (object .entry)) (now (fourth .entry)) (r .fourth) ⌝ }
 {
     let p = names::key(first, 0, first.len());
     let q = names::key(second, 0, second.len());
-    let mut at = 0;
-    let mut other = 0;
+    let r = names::key(third, 0, third.len());
+    let s = names::key(fourth, 0, fourth.len());
+    let mut a = 0;
+    let mut b = 0;
+    let mut c = 0;
+    let mut d = 0;
     let mut size = l.count;
     while 1 < size {
         let half = size / 2;
-        at = probe(dict, h, object, l, at, half, p);
-        other = probe(dict, h, object, l, other, half, q);
+        a = probe(dict, h, object, l, a, half, p);
+        b = probe(dict, h, object, l, b, half, q);
+        c = probe(dict, h, object, l, c, half, r);
+        d = probe(dict, h, object, l, d, half, s);
         size -= half;
     }
-    Two {
-        first: Spot { at, key: p },
-        second: Spot { at: other, key: q },
+    Four {
+        first: Spot { at: a, key: p },
+        second: Spot { at: b, key: q },
+        third: Spot { at: c, key: r },
+        fourth: Spot { at: d, key: s },
     }
 }
 
@@ -309,18 +321,18 @@ fn write_row(words: &mut [u32], at: usize, row: Row)
     words[at + 4] = row.end;
 }
 
-// Where the name after name k ends; of the last name, where it ends itself.
-fn end_after(ends: &[u32], k: usize) -> usize
-    requires { ⌜ k < length (now ends) ⌝ }
-    ensures { λ r. ⌜ r ≡ cond (ltb (k + 1) (length (now (ends .entry)))) (endOf (now (ends .entry)) (k + 1)) (endOf (now (ends .entry)) k) ⌝ }
+// Where name j ends; past the last name, where the last ends.
+fn end_at(ends: &[u32], j: usize) -> usize
+    requires { ⌜ 0 < length (now ends) ⌝ }
+    ensures { λ r. ⌜ r ≡ cond (ltb j (length (now (ends .entry)))) (endOf (now (ends .entry)) j) (endOf (now (ends .entry)) (length (now (ends .entry)) - 1)) ⌝ }
 {
-    if k + 1 < ends.len() {
-        return ends[k + 1] as usize;
+    if j < ends.len() {
+        return ends[j] as usize;
     }
-    ends[k] as usize
+    ends[ends.len() - 1] as usize
 }
 
-// The spot of name k, and of the one after it: of an even k both are searched, and of an odd k its own was found before.
+// The spots of name k and of those after it, four to a search: where k is not the first of its four, they were found before. Names past the last are empty.
 fn spots(
     dict: &[u8],
     h: metadata::Header,
@@ -330,21 +342,37 @@ fn spots(
     ends: &[u32],
     k: usize,
     begin: usize,
-    before: Spot,
-) -> Two
-    requires { ⌜ Opened (now dict) h (now object) l × GoodEnds (now names) (now ends) × NameAt (now ends) k begin × (k % 2 ≡ 1 → SpotOf (now dict) (now object) (name (now names) (now ends) k) before) ⌝ }
+    before: Four,
+) -> Four
+    requires { ⌜ Opened (now dict) h (now object) l × GoodEnds (now names) (now ends) × NameAt (now ends) k begin × Ahead (now dict) (now object) (now names) (now ends) k before ⌝ }
     ensures { λ r. ⌜ SpotsOf (now (dict .entry)) (now (object .entry)) (now (names .entry)) (now (ends .entry)) k r ⌝ }
 {
-    if k % 2 == 1 {
-        return Two {
-            first: before,
-            second: before,
-        };
+    if 0 < k % 4 {
+        return before;
     }
-    let end = ends[k] as usize;
-    let next = end_after(ends, k);
-    let first = &names[begin..end];
-    narrow(dict, h, object, l, first, &names[end..next])
+    let p = end_at(ends, k);
+    let q = end_at(ends, k + 1);
+    let r = end_at(ends, k + 2);
+    let s = end_at(ends, k + 3);
+    let first = &names[begin..p];
+    let second = &names[p..q];
+    let third = &names[q..r];
+    narrow(dict, h, object, l, first, second, third, &names[r..s])
+}
+
+// The spots after the first, for the next name.
+fn onward(four: Four) -> Four
+    ensures { λ r. ⌜ (r .first ≡ four .second) × (r .second ≡ four .third) × (r .third ≡ four .fourth) ⌝ }
+{
+    let second = four.second;
+    let third = four.third;
+    let fourth = four.fourth;
+    Four {
+        first: second,
+        second: third,
+        third: fourth,
+        fourth,
+    }
 }
 
 // The rows of all names.
@@ -364,13 +392,19 @@ fn write_rows(
     let mut k = 0;
     let mut begin = 0;
     let mut at = 0;
-    let mut ahead = Spot { at: 0, key: 0 };
+    let none = Spot { at: 0, key: 0 };
+    let mut ahead = Four {
+        first: none,
+        second: none,
+        third: none,
+        fourth: none,
+    };
     while k < count {
-        let two = spots(dict, h, object, l, names, ends, k, begin, ahead);
+        let four = spots(dict, h, object, l, names, ends, k, begin, ahead);
         let end = ends[k] as usize;
-        let found = settle(dict, h, object, l, &names[begin..end], two.first);
+        let found = settle(dict, h, object, l, &names[begin..end], four.first);
         write_row(words, at, row_of(object, l, found));
-        ahead = two.second;
+        ahead = onward(four);
         at += 5;
         begin = end;
         k += 1;

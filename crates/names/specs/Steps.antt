@@ -2,7 +2,7 @@
 use mathlib.Core.Path.{_≡_}
 use mathlib.Core.Bool.{cond}
 use mathlib.Core.List.{List}
-use Prim.Native.Nat.{ℕ, zero, suc, _+_, _*_, _≤_, _<_}
+use Prim.Native.Nat.{ℕ, zero, suc, _+_, _*_, _/_, _≤_, _<_}
 use lib.Dec.{ltb}
 use lib.ListN.{drop, getD}
 use Rattle.width.specs.Width.{le}
@@ -36,8 +36,8 @@ pub record Decides (s t : List ℕ) (shared r : ℕ) : Type 0 where
   pub inside : r + 8 ≤ shared
   pub last : Alike s t (r + 8) → r + 8 ≡ shared
 
--- r is a name's key: the number of its first seven bytes, with zeros where it is shorter; and seven bits 0 below these
+-- r is a name's key: the number of its first eight bytes, with zeros where it is shorter, without the lowest bit
 pub record KeyOf (s : List ℕ) (r : ℕ) : Type 0 where
-  pub is : r ≡ be s 0 7 * 128
+  pub is : r ≡ be s 0 8 / 2
   pub small : r < 9223372036854775808
   pub octets : (k : ℕ) → getD s k 0 < 256

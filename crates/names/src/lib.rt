@@ -187,19 +187,20 @@ fn padded_half(s: &[u8], at: usize) -> usize
 // All keys are below this.
 pub const KEYS: usize = 0x8000_0000_0000_0000;
 
-// The key of the name that stands in `s` from one place to another: its first seven bytes as a number, with zeros where it is shorter, and
-// seven bits 0 below these, so that eight bytes are loaded at once. Keys that differ are in the order of their names. No branch depends on the
-// length, but for the last bytes of `s`.
+// The key of the name that stands in `s` from one place to another: its first eight bytes as a number, with zeros where it is shorter, without
+// the lowest bit. Keys that differ are in the order of their names. No branch depends on a length above 0, but for the last bytes of `s`.
 pub fn key(s: &[u8], from: usize, to: usize) -> usize
     requires { ⌜ (from ≤ to) × (to ≤ length (now s)) ⌝ }
     ensures { λ r. ⌜ KeyOf (part (now (s .entry)) from to) r ⌝ }
 {
+    let n = to - from;
+    if n == 0 {
+        return 0;
+    }
     if s.len() - from < 8 {
         let name = &s[from..to];
-        let eight = padded_half(name, 0) * 0x1_0000_0000 + padded_half(name, 4);
-        return eight / 256 * 128;
+        return (padded_half(name, 0) * 0x1_0000_0000 + padded_half(name, 4)) / 2;
     }
-    let most = word(s, from) / 2;
-    let past = 63 - 8 * least(to - from, 7);
-    most >> past << past
+    let past = 64 - 8 * least(n, 8);
+    (word(s, from) >> past << past) / 2
 }
