@@ -189,8 +189,8 @@ fn probe(
     ensures { λ r. ⌜ Probed (fieldName (now (dict .entry)) (now (object .entry)) (at + step)) key at step r ⌝ }
 {
     let id = object::id_at(object, l, at + step);
-    let field = metadata::span_of(dict, h, id);
-    at + climb(step, key, names::key(dict, field.start, field.end))
+    let name = metadata::span_of(dict, h, id);
+    at + climb(step, key, names::key(dict, name.start, name.end))
 }
 
 // Where a name may be: at this field or before it. With the name's key.
@@ -261,9 +261,9 @@ fn settle(
         return Search::Nowhere;
     }
     let id = object::id_at(object, l, spot.at);
-    let field = metadata::span_of(dict, h, id);
-    let a = field.start;
-    let e = field.end;
+    let there = metadata::span_of(dict, h, id);
+    let a = there.start;
+    let e = there.end;
     let key = names::key(dict, a, e);
     if key < spot.key {
         return Search::Nowhere;
@@ -332,7 +332,8 @@ fn end_at(ends: &[u32], j: usize) -> usize
     ends[ends.len() - 1] as usize
 }
 
-// The spots of name k and of those after it, four to a search: where k is not the first of its four, they were found before. Names past the last are empty.
+// The spots of name k and of those after it, four to a search: where k is not the first of its four, they were found before. Names past the
+// last are empty.
 fn spots(
     dict: &[u8],
     h: metadata::Header,
@@ -437,15 +438,15 @@ fn get_all_over(
     match opening {
         object::Opening::Refused(r) => Lookups::Refused(r),
         object::Opening::Open(m) => {
-            let l = m.layer;
+            let layer = m.layer;
             if words.len() / 5 < ends.len() {
                 return Lookups::NoRoom;
             }
-            write_rows(dict, m.header, object, l, names, ends, words);
+            write_rows(dict, m.header, object, layer, names, ends, words);
             Lookups::Answered {
-                count: l.count,
-                start: l.start,
-                end: l.end,
+                count: layer.count,
+                start: layer.start,
+                end: layer.end,
             }
         }
     }
