@@ -3,9 +3,10 @@
 ghost use mathlib.Core.Path.{_≡_};
 ghost use Prim.Native.Nat.{_≤_};
 ghost use lib.ListN.{length};
+ghost use Rattle.lookup.specs.Many.{rowsAfter};
 ghost use Rattle.listing.specs.Words.{wordsAfter};
 ghost use Rattle.words.specs.Shapes.{stripBytes};
-ghost use Rattle.lichenhusk.specs.Strip.{lookupWords, layerWords, listWords, verdictWords, nameAtWords};
+ghost use Rattle.lichenhusk.specs.Strip.{lookupWords, allWords, layerWords, listWords, verdictWords, nameAtWords};
 ghost use Rattle.lichenhusk.specs.Host.{wordsIn};
 ghost use Rattle.ask.specs.Numbers.{numbersOf};
 use libc::STDOUT_FILENO;
@@ -64,6 +65,22 @@ pub fn lookup(dict: &[u8], object: &[u8], name: &[u8]) -> Answer
 {
     let mut strip = [0u8; STRIP];
     lichenhusk::lichenhusk_lookup(dict, object, name, &mut strip);
+    read(&strip)
+}
+
+// Many names at one check. The six words are whole for as many ends as 32 bits can number: the place of 45 is one of them.
+pub fn lookup_all(
+    dict: &[u8],
+    object: &[u8],
+    names: &[u8],
+    ends: &[u32],
+    words: &mut [u32],
+) -> Answer
+    ensures { λ r. ⌜ (length (now (ends .entry)) ≤ 4294967296 → numbersOf r ≡ allWords (now (dict .entry)) (now (object .entry)) (now (names .entry)) (now (ends .entry)) (now (words .entry))) ⌝ }
+    ensures { λ _. ⌜ now (words .exit) ≡ rowsAfter (now (dict .entry)) (now (object .entry)) (now (names .entry)) (now (ends .entry)) (now (words .entry)) ⌝ }
+{
+    let mut strip = [0u8; STRIP];
+    lichenhusk::lichenhusk_lookup_all(dict, object, names, ends, words, &mut strip);
     read(&strip)
 }
 

@@ -66,7 +66,7 @@ fn answered(text: &[u8], a: Answer) -> bool {
     ends(text, six.next)
 }
 
-fn listed_words(text: &[u8], from: usize, words: &[u32]) -> bool {
+fn has_words(text: &[u8], from: usize, words: &[u32]) -> bool {
     let mut at = from;
     for i in 0..words.len() {
         let seen = see(text, at, ask::wide(words[i]));
@@ -78,29 +78,32 @@ fn listed_words(text: &[u8], from: usize, words: &[u32]) -> bool {
     ends(text, at)
 }
 
-// The words that were written: three a field.
-fn listed(text: &[u8], a: Answer, words: &[u32]) -> bool {
-    let six = see_six(text, a);
-    if !six.same {
-        return false;
-    }
-    let colon = word(text, six.next);
+// Whether the text from `from` on has a colon, the first `n` words, and no more.
+pub fn has_filled(text: &[u8], from: usize, words: &[u32], n: usize) -> bool {
+    let colon = word(text, from);
     let p = colon.start;
     let q = colon.end;
     if !check::same(&text[p..q], b":") {
         return false;
     }
-    if words.len() / 3 < a.number {
+    if words.len() < n {
         return false;
     }
-    let n = 3 * a.number;
-    listed_words(text, q, &words[0..n])
+    has_words(text, q, &words[0..n])
+}
+
+fn listed(text: &[u8], a: Answer, words: &[u32], n: usize) -> bool {
+    let six = see_six(text, a);
+    if !six.same {
+        return false;
+    }
+    has_filled(text, six.next, words, n)
 }
 
 pub fn is(text: &[u8], outcome: Outcome, words: &[u32]) -> bool {
     match outcome {
         Outcome::Answered(a) => answered(text, a),
-        Outcome::Listed(a) => listed(text, a, words),
+        Outcome::Listed { answer, filled } => listed(text, answer, words, filled),
         Outcome::NoCase(_) => false,
     }
 }

@@ -1,8 +1,9 @@
 // A question on a line, and its answer:
 //
-//     dictionary D     name D N     layer D O     lookup D O NAME     list D O ROOM
+//     dictionary D     name D N     layer D O     lookup D O NAME     list D O ROOM     all D O RUN ROOM END ..
 //
-// D, O and NAME are bytes in hex, `-` for none; N is an entry's number, ROOM how many words a listing may fill.
+// D, O, NAME and RUN are bytes in hex, `-` for none; N is an entry's number, ROOM how many words the answer may fill. RUN is the names of
+// a lookup of many, one after another, and after ROOM comes where each ends.
 ghost use Prim.Native.Nat.{_≤_};
 ghost use lib.ListN.{length};
 use ask::Answer;
@@ -16,7 +17,7 @@ pub mod tally;
 
 pub enum Outcome {
     Answered(Answer),
-    Listed(Answer),
+    Listed { answer: Answer, filled: usize },
     NoCase(usize),
 }
 
@@ -31,6 +32,8 @@ const NO_NUMBER: usize = 7;
 
 const NO_ROOM: usize = 8;
 
+const MANY_ENDS: usize = 9;
+
 fn reason(n: usize) -> bool {
     match n {
         1 => io::write_all(1, b"an odd number of hex digits"),
@@ -38,12 +41,13 @@ fn reason(n: usize) -> bool {
         3 => io::write_all(1, b"more bytes than there is room for"),
         4 => io::write_all(
             1,
-            b"the first word is none of dictionary, name, layer, lookup, list",
+            b"the first word is none of dictionary, name, layer, lookup, list, all",
         ),
         5 => io::write_all(1, b"a word is missing"),
         6 => io::write_all(1, b"a word too many"),
         7 => io::write_all(1, b"no number below 4294967296"),
-        _ => io::write_all(1, b"more room than there is"),
+        8 => io::write_all(1, b"more room than there is"),
+        _ => io::write_all(1, b"more ends than there is room for"),
     }
 }
 
@@ -54,6 +58,16 @@ struct Operand {
     next: usize,
 }
 
+fn faulty(fault: usize) -> Operand
+    ensures { λ r. ⌜ r .len ≤ 0 ⌝ }
+{
+    Operand {
+        fault,
+        len: 0,
+        next: 0,
+    }
+}
+
 fn bytes_at(text: &[u8], from: usize, out: &mut [u8]) -> Operand
     ensures { λ r. ⌜ r .len ≤ length (now (out .exit)) ⌝ }
 {
@@ -61,11 +75,7 @@ fn bytes_at(text: &[u8], from: usize, out: &mut [u8]) -> Operand
     let a = w.start;
     let e = w.end;
     if a == e {
-        return Operand {
-            fault: MISSING,
-            len: 0,
-            next: a,
-        };
+        return faulty(MISSING);
     }
     let read = hex(&text[a..e], out);
     Operand {
@@ -81,11 +91,7 @@ fn number_at(text: &[u8], from: usize) -> Operand {
     let a = w.start;
     let e = w.end;
     if a == e {
-        return Operand {
-            fault: MISSING,
-            len: 0,
-            next: a,
-        };
+        return faulty(MISSING);
     }
     let read = number(&text[a..e]);
     match read {
@@ -94,11 +100,7 @@ fn number_at(text: &[u8], from: usize) -> Operand {
             len: n,
             next: e,
         },
-        Numeral::No => Operand {
-            fault: NO_NUMBER,
-            len: 0,
-            next: e,
-        },
+        Numeral::No => faulty(NO_NUMBER),
     }
 }
 
@@ -193,6 +195,22 @@ fn lookup(text: &[u8], dict: &mut [u8], object: &mut [u8], name: &mut [u8]) -> O
     Outcome::Answered(ask::lookup(&dict[0..n], &object[0..m], &name[0..l]))
 }
 
+// How many of `room` words a listing of `fields` fills: three a field.
+fn three(fields: usize, room: usize) -> usize {
+    if room / 3 < fields {
+        return 0;
+    }
+    3 * fields
+}
+
+// And a lookup of `names`: five a name.
+fn five(names: usize, room: usize) -> usize {
+    if room / 5 < names {
+        return 0;
+    }
+    5 * names
+}
+
 fn list(text: &[u8], dict: &mut [u8], object: &mut [u8], words: &mut [u32]) -> Outcome {
     let b = both_at(text, dict, object);
     if b.fault != 0 {
@@ -211,12 +229,106 @@ fn list(text: &[u8], dict: &mut [u8], object: &mut [u8], words: &mut [u32]) -> O
     let m = b.object;
     let a = ask::list(&dict[0..n], &object[0..m], &mut words[0..k]);
     if a.code == 0 {
-        return Outcome::Listed(a);
+        return Outcome::Listed {
+            answer: a,
+            filled: three(a.number, k),
+        };
     }
     Outcome::Answered(a)
 }
 
-// 1 to 5, or 0 for a word that asks nothing.
+// The numbers from `from` on, to the start of `out`: how many they are for a length.
+fn numbers_at(text: &[u8], from: usize, out: &mut [u32]) -> Operand
+    ensures { λ r. ⌜ r .len ≤ length (now (out .exit)) ⌝ }
+{
+    let mut at = from;
+    let mut len: usize = 0;
+    while !expected::ends(text, at) {
+        if len == out.len() {
+            return faulty(MANY_ENDS);
+        }
+        let read = number_at(text, at);
+        if read.fault != 0 {
+            return faulty(read.fault);
+        }
+        if 0xFFFF_FFFF < read.len {
+            return faulty(NO_NUMBER);
+        }
+        out[len] = read.len as u32;
+        len += 1;
+        at = read.next;
+    }
+    Operand {
+        fault: 0,
+        len,
+        next: at,
+    }
+}
+
+// ROOM and the ends, which come after RUN, and the answer.
+fn all_of(
+    text: &[u8],
+    from: usize,
+    dict: &[u8],
+    object: &[u8],
+    run: &[u8],
+    ends: &mut [u32],
+    words: &mut [u32],
+) -> Outcome {
+    let room = number_at(text, from);
+    if room.fault != 0 {
+        return Outcome::NoCase(room.fault);
+    }
+    let e = numbers_at(text, room.next, ends);
+    if e.fault != 0 {
+        return Outcome::NoCase(e.fault);
+    }
+    let k = room.len;
+    if words.len() < k {
+        return Outcome::NoCase(NO_ROOM);
+    }
+    let n = e.len;
+    let a = ask::lookup_all(dict, object, run, &ends[0..n], &mut words[0..k]);
+    if a.code == 0 {
+        return Outcome::Listed {
+            answer: a,
+            filled: five(n, k),
+        };
+    }
+    Outcome::Answered(a)
+}
+
+fn all(
+    text: &[u8],
+    dict: &mut [u8],
+    object: &mut [u8],
+    run: &mut [u8],
+    ends: &mut [u32],
+    words: &mut [u32],
+) -> Outcome {
+    let b = both_at(text, dict, object);
+    if b.fault != 0 {
+        return Outcome::NoCase(b.fault);
+    }
+    let q = bytes_at(text, b.next, run);
+    if q.fault != 0 {
+        return Outcome::NoCase(q.fault);
+    }
+    let n = b.dict;
+    let m = b.object;
+    let l = q.len;
+    all_of(
+        text,
+        q.next,
+        &dict[0..n],
+        &object[0..m],
+        &run[0..l],
+        ends,
+        words,
+    )
+}
+
+// 1 to 6, or 0 for a word that asks nothing.
 fn kind(verb: &[u8]) -> usize {
     if check::same(verb, b"dictionary") {
         return 1;
@@ -233,15 +345,19 @@ fn kind(verb: &[u8]) -> usize {
     if check::same(verb, b"list") {
         return 5;
     }
+    if check::same(verb, b"all") {
+        return 6;
+    }
     0
 }
 
-// The answer to a line. The bytes go into the rooms lent, and a listing's words to the start of `words`.
+// The answer to a line. The bytes and the ends go into the rooms lent, and the words that are filled to the start of `words`.
 pub fn answer(
     line: &[u8],
     dict: &mut [u8],
     object: &mut [u8],
     query: &mut [u8],
+    ends: &mut [u32],
     words: &mut [u32],
 ) -> Outcome {
     let verb = word(line, 0);
@@ -255,31 +371,29 @@ pub fn answer(
         3 => layer(rest, dict, object),
         4 => lookup(rest, dict, object, query),
         5 => list(rest, dict, object, words),
+        6 => all(rest, dict, object, query, ends, words),
         _ => Outcome::NoCase(UNKNOWN),
     }
 }
 
-// How many words a listing of `count` fields filled: three a field.
-fn filled(words: &[u32], count: usize) -> usize
-    ensures { λ r. ⌜ r ≤ length (now (words .entry)) ⌝ }
-{
-    if words.len() / 3 < count {
-        return 0;
+// The first `n` words, or none where there are not so many.
+fn first(words: &[u32], n: usize) -> &[u32] {
+    if words.len() < n {
+        return &words[0..0];
     }
-    3 * count
+    &words[0..n]
 }
 
-// An answer as a line has it: six numbers, and for a listing ` :` and its words; or `? ` and why the line is no case.
+// An answer as a line has it: six numbers, and where words were filled ` :` and these; or `? ` and why the line is no case.
 pub fn write(outcome: Outcome, words: &[u32]) {
     match outcome {
         Outcome::Answered(a) => {
             ask::write(a);
         }
-        Outcome::Listed(a) => {
-            ask::write(a);
+        Outcome::Listed { answer, filled } => {
+            ask::write(answer);
             io::write_all(1, b" :");
-            let n = filled(words, a.number);
-            ask::write_words(&words[0..n]);
+            ask::write_words(first(words, filled));
         }
         Outcome::NoCase(n) => {
             io::write_all(1, b"? ");

@@ -112,9 +112,10 @@ fn answer(line: &[u8]) {
     let mut dict = [0u8; 65537];
     let mut object = [0u8; 65537];
     let mut query = [0u8; 65537];
+    let mut ends = [0u32; 16384];
     let mut room = [0u32; 65536];
     let words: &mut [u32] = &mut room;
-    let outcome = cases::answer(line, &mut dict, &mut object, &mut query, words);
+    let outcome = cases::answer(line, &mut dict, &mut object, &mut query, &mut ends, words);
     cases::write(outcome, words);
     io::write_all(STDOUT_FILENO, b"\n");
 }

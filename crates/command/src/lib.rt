@@ -1,5 +1,8 @@
-// The command `variant`: what it does with its arguments. The programs over it are variant and, for tests, variant_batch, variant_find
-// and variant_files.
+// The command `variant`: what it does with its arguments. The programs over it are variant and, for tests, variant_batch, variant_find,
+// variant_find_all and variant_files.
+ghost use Prim.Native.Nat.{_≤_};
+ghost use lib.ListN.{length};
+
 mod batch;
 
 use sentences::files;
@@ -24,9 +27,7 @@ fn show() {
 }
 
 fn show_found(dict: &[u8], object: &[u8], name: &[u8]) {
-    tell(b"find ");
-    sentences::quoted(name);
-    tell(b": ");
+    sentences::sought(name);
     sentences::find(dict, object, name);
 }
 
@@ -34,7 +35,7 @@ fn usage() {
     tell(b"usage: variant                          an example\n");
     tell(b"       variant check DICT [OBJECT]      are the bytes of these files accepted?\n");
     tell(b"       variant name DICT N              the name of entry N\n");
-    tell(b"       variant find DICT OBJECT NAME    the field of that name\n");
+    tell(b"       variant find DICT OBJECT NAME..  the fields of these names\n");
     tell(b"       variant list DICT OBJECT         all fields\n");
     tell(b"       variant batch                    answers to the lines of standard input\n");
 }
@@ -76,15 +77,24 @@ enum Wish {
     Find,
 }
 
-fn answer(wish: Wish, dict: &[u8], object: &[u8], query: &[u8]) {
-    match wish {
-        Wish::Check => sentences::check_object(dict, object),
-        Wish::List => sentences::list(dict, object),
-        Wish::Find => sentences::find(dict, object, query),
+// One name's answer stands alone; of several, each comes after its name.
+fn find_in(dict: &[u8], object: &[u8], names: &[u8], ends: &[u32]) {
+    if ends.len() == 1 {
+        sentences::find(dict, object, names);
+    } else {
+        sentences::find_all(dict, object, names, ends);
     }
 }
 
-fn with_both(wish: Wish, path: &[u8], object_path: &[u8], query: &[u8]) {
+fn answer(wish: Wish, dict: &[u8], object: &[u8], names: &[u8], ends: &[u32]) {
+    match wish {
+        Wish::Check => sentences::check_object(dict, object),
+        Wish::List => sentences::list(dict, object),
+        Wish::Find => find_in(dict, object, names, ends),
+    }
+}
+
+fn with_both(wish: Wish, path: &[u8], object_path: &[u8], names: &[u8], ends: &[u32]) {
     let mut dict_room = [0u8; 65537];
     let dict = files::load(path, &mut dict_room);
     if !dict.good {
@@ -97,26 +107,98 @@ fn with_both(wish: Wish, path: &[u8], object_path: &[u8], query: &[u8]) {
     }
     let n = dict.len;
     let m = object.len;
-    answer(wish, &dict_room[0..n], &object_room[0..m], query);
+    answer(wish, &dict_room[0..n], &object_room[0..m], names, ends);
 }
 
-// A command of `count` words, `variant` among them; the words that are not there are empty.
-pub fn act(count: usize, verb: &[u8], one: &[u8], two: &[u8], three: &[u8]) {
+// The names of a run of bytes, `ends` where each ends, in two files.
+pub fn find(path: &[u8], object_path: &[u8], names: &[u8], ends: &[u32]) {
+    if 64 < ends.len() {
+        tell(b"more than 64 names\n");
+        return;
+    }
+    with_both(Wish::Find, path, object_path, names, ends);
+}
+
+// A command of `count` words, `variant` among them; the words that are not there are empty. That of names is `find`.
+pub fn act(count: usize, verb: &[u8], one: &[u8], two: &[u8]) {
     if count == 2 && check::same(verb, b"batch") {
         batch::run();
     } else if count == 3 && check::same(verb, b"check") {
         check(one);
     } else if count == 4 && check::same(verb, b"check") {
-        with_both(Wish::Check, one, two, b"");
+        with_both(Wish::Check, one, two, b"", &[0; 0]);
     } else if count == 4 && check::same(verb, b"name") {
         name(one, two);
     } else if count == 4 && check::same(verb, b"list") {
-        with_both(Wish::List, one, two, b"");
-    } else if count == 5 && check::same(verb, b"find") {
-        with_both(Wish::Find, one, two, three);
+        with_both(Wish::List, one, two, b"", &[0; 0]);
     } else {
         usage();
     }
+}
+
+// The names that were gathered: the first `len` bytes of a run, and the first `count` ends.
+struct Names {
+    good: bool,
+    len: usize,
+    count: usize,
+}
+
+fn too_long(count: usize) -> Names
+    ensures { λ r. ⌜ (r .len ≤ 0) × (r .count ≤ 0) ⌝ }
+{
+    if count == 5 {
+        tell(b"NAME is longer than 65536 bytes\n");
+    } else {
+        tell(b"the names are longer than 65536 bytes together\n");
+    }
+    Names {
+        good: false,
+        len: 0,
+        count: 0,
+    }
+}
+
+// The arguments after DICT and OBJECT, as far as there is room for their ends.
+fn gather(count: usize, run: &mut [u8], ends: &mut [u32]) -> Names
+    requires { ⌜ length (now run) ≤ 65536 ⌝ }
+    ensures { λ r. ⌜ (r .len ≤ length (now (run .exit))) × (r .count ≤ length (now (ends .exit))) ⌝ }
+{
+    let mut at: usize = 0;
+    let mut k: usize = 0;
+    for i in 4..count {
+        if k == ends.len() {
+            return Names {
+                good: true,
+                len: at,
+                count: k,
+            };
+        }
+        let n = os::arg(i, &mut run[at..]);
+        if os::errno() != 0 {
+            return too_long(count);
+        }
+        at += n;
+        ends[k] = at as u32;
+        k += 1;
+    }
+    Names {
+        good: true,
+        len: at,
+        count: k,
+    }
+}
+
+// There is room for one end more than are taken, so that too many are seen.
+fn find_arguments(count: usize, path: &[u8], object_path: &[u8]) {
+    let mut run = io::large_buffer();
+    let mut ends = [0u32; 65];
+    let names = gather(count, &mut run, &mut ends);
+    if !names.good {
+        return;
+    }
+    let n = names.len;
+    let k = names.count;
+    find(path, object_path, &run[0..n], &ends[0..k]);
 }
 
 // The command of the program's own arguments.
@@ -129,14 +211,12 @@ pub fn run() {
     let mut verb = io::buffer();
     let mut one = io::buffer();
     let mut two = io::buffer();
-    let mut three = io::large_buffer();
     let v = os::arg(1, &mut verb);
     let a = os::arg(2, &mut one);
     let b = os::arg(3, &mut two);
-    let c = os::arg(4, &mut three);
-    if count == 5 && os::errno() != 0 {
-        tell(b"NAME is longer than 65536 bytes\n");
-        return;
+    if 5 <= count && check::same(&verb[..v], b"find") {
+        find_arguments(count, &one[..a], &two[..b]);
+    } else {
+        act(count, &verb[..v], &one[..a], &two[..b]);
     }
-    act(count, &verb[..v], &one[..a], &two[..b], &three[..c]);
 }

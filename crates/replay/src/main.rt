@@ -13,11 +13,20 @@ fn agrees(question: &[u8], words: &[u8]) -> bool {
     let mut dict = [0u8; 256];
     let mut object = [0u8; 256];
     let mut query = [0u8; 256];
+    let mut ends = [0u32; 3];
     let mut room = [0u32; 16];
-    let outcome = cases::answer(question, &mut dict, &mut object, &mut query, &mut room);
+    let rows: &mut [u32] = &mut room;
+    let outcome = cases::answer(
+        question,
+        &mut dict,
+        &mut object,
+        &mut query,
+        &mut ends,
+        rows,
+    );
     match outcome {
         Outcome::Answered(a) => told::agrees(words, a),
-        Outcome::Listed(_) => false,
+        Outcome::Listed { answer, filled } => told::agrees_rows(words, answer, rows, filled),
         Outcome::NoCase(_) => false,
     }
 }

@@ -1,8 +1,10 @@
-// What the Rust says on a line, held against our six numbers:
+// What the Rust says on a line, held against our six numbers, and of many names against our words, too:
 //
 //     accepts COUNT END     child COUNT END     at START END     found FIELD ID START END     absent     refuses NUMBER     refuses -
+//     rows COUNT END : CODE FIELD ID START END ..
 use ask::Answer;
 use cases::expected::ends;
+use cases::expected::has_filled;
 use cases::expected::see;
 use text::word;
 
@@ -111,4 +113,34 @@ pub fn agrees(words: &[u8], a: Answer) -> bool {
         1 => absent(verb, a),
         _ => false,
     }
+}
+
+// Whether the text from `from` on has count and end, and after them the `n` words that we filled.
+fn rows(text: &[u8], from: usize, a: Answer, words: &[u32], n: usize) -> bool {
+    let count = see(text, from, a.number);
+    if !count.same {
+        return false;
+    }
+    let end = see(text, count.next, a.end);
+    if !end.same {
+        return false;
+    }
+    has_filled(text, end.next, words, n)
+}
+
+// Of many names.
+pub fn agrees_rows(text: &[u8], a: Answer, words: &[u32], n: usize) -> bool {
+    let verb = word(text, 0);
+    let s = verb.start;
+    let e = verb.end;
+    if !check::same(&text[s..e], b"rows") {
+        return false;
+    }
+    if a.id != 0 {
+        return false;
+    }
+    if a.place != 0 {
+        return false;
+    }
+    rows(text, e, a, words, n)
 }

@@ -1,4 +1,6 @@
 // Each answer as a sentence to standard output: what is here promises safety only.
+ghost use Prim.Native.Nat.{_+_, _≤_};
+ghost use lib.ListN.{length};
 ghost use Rattle.object.specs.Steps.{Over};
 
 pub mod files;
@@ -59,7 +61,8 @@ fn meaning_of_object(code: usize) -> bool {
         25 => tell(b"its id is no entry of the dictionary"),
         26 => tell(b"its name is not above the one before"),
         27 => tell(b"its offset is above the value region's length"),
-        _ => tell(b"the listing has more words than there is room for"),
+        41 => tell(b"the answer has more words than there is room for"),
+        _ => tell(b"its end falls or passes the bytes of the names"),
     }
 }
 
@@ -72,13 +75,14 @@ fn place(a: Answer) {
         }
         17 | 18 => say(b" at entry ", a.place),
         25 | 26 | 27 => say(b" at field ", a.place),
+        45 => say(b" at name ", a.place),
         _ => {}
     }
 }
 
 fn is_object(code: usize) -> bool {
     match code {
-        20..=27 | 41 => true,
+        20..=27 | 41 | 45 => true,
         _ => false,
     }
 }
@@ -131,10 +135,8 @@ pub fn check_object(dict: &[u8], object: &[u8]) {
     accepted(a);
 }
 
-// The part of `s` that an answer gives.
-fn part_of(s: &[u8], a: Answer) -> &[u8] {
-    let start = a.start;
-    let end = a.end;
+// The part of `s` from `start` to `end`; nothing where there is none.
+fn part_of(s: &[u8], start: usize, end: usize) -> &[u8] {
     if s.len() < end {
         return &s[0..0];
     }
@@ -154,7 +156,7 @@ pub fn name(dict: &[u8], entry: usize) {
     say(b" is at bytes ", a.start);
     say(b" to ", a.end);
     tell(b": ");
-    quoted(part_of(dict, a));
+    quoted(part_of(dict, a.start, a.end));
     tell(b"\n");
 }
 
@@ -172,8 +174,8 @@ fn start_of(value: &[u8]) {
     tell(b" ..");
 }
 
-pub fn find(dict: &[u8], object: &[u8], name: &[u8]) {
-    let a = ask::lookup(dict, object, name);
+// What a lookup answers.
+fn found(object: &[u8], a: Answer) {
     if a.code == 1 {
         tell(b"absent\n");
         return;
@@ -187,8 +189,61 @@ pub fn find(dict: &[u8], object: &[u8], name: &[u8]) {
     say(b" of the dictionary, its value from byte ", a.start);
     say(b" to byte ", a.end);
     tell(b":");
-    start_of(part_of(object, a));
+    start_of(part_of(object, a.start, a.end));
     tell(b"\n");
+}
+
+pub fn find(dict: &[u8], object: &[u8], name: &[u8]) {
+    found(object, ask::lookup(dict, object, name));
+}
+
+// The name that was looked for, before what was found of it.
+pub fn sought(name: &[u8]) {
+    tell(b"find ");
+    quoted(name);
+    tell(b": ");
+}
+
+// What the five words of a name say, as if it had been asked alone.
+fn row(words: &[u32], at: usize) -> Answer
+    requires { ⌜ at + 5 ≤ length (now words) ⌝ }
+{
+    Answer {
+        code: wide(words[at]),
+        number: wide(words[at + 1]),
+        id: wide(words[at + 2]),
+        start: wide(words[at + 3]),
+        end: wide(words[at + 4]),
+        place: 0,
+    }
+}
+
+// A line a name, in the order asked.
+fn rows(object: &[u8], names: &[u8], ends: &[u32], words: &[u32]) {
+    let mut begin: usize = 0;
+    let mut at: usize = 0;
+    for k in 0..ends.len() {
+        if words.len() - at < 5 {
+            return;
+        }
+        let end = wide(ends[k]);
+        sought(part_of(names, begin, end));
+        found(object, row(words, at));
+        begin = end;
+        at += 5;
+    }
+}
+
+// The names that a run of bytes holds, `ends` where each ends, looked up at one check. There is room for the words of 64.
+pub fn find_all(dict: &[u8], object: &[u8], names: &[u8], ends: &[u32]) {
+    let mut room = [0u32; 320];
+    let words: &mut [u32] = &mut room;
+    let a = ask::lookup_all(dict, object, names, ends, words);
+    if a.code != 0 {
+        refused(a);
+        return;
+    }
+    rows(object, names, ends, words);
 }
 
 // A field of a listing over a dictionary that was checked: nothing is checked again.

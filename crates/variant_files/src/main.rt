@@ -1,5 +1,6 @@
 // Runs the commands of stdin, a line each, on the files of data/: what `variant` does with these words as its arguments.
 ghost use Prim.Native.Nat.{_≤_};
+ghost use lib.ListN.{length};
 use libc::STDOUT_FILENO;
 use text::find;
 use text::word;
@@ -25,26 +26,77 @@ fn count(line: &[u8]) -> usize {
     1 + three + counts(d.start, d.end) + counts(e.start, e.end)
 }
 
+// The names that were gathered: the first `len` bytes of a run, and the first `count` ends.
+struct Names {
+    len: usize,
+    count: usize,
+}
+
+// The run with a word more at `at`, as far as there is room, and where it goes on.
+fn put(run: &mut [u8], at: usize, word: &[u8]) -> usize
+    requires { ⌜ at ≤ length (now run) ⌝ }
+    ensures { λ r. ⌜ r ≤ length (now (run .exit)) ⌝ }
+{
+    let mut to = at;
+    for i in 0..word.len() {
+        if to == run.len() {
+            return to;
+        }
+        run[to] = word[i];
+        to += 1;
+    }
+    to
+}
+
+// The words from `from` on, one after another, as far as there is room for their ends.
+fn gather(line: &[u8], from: usize, run: &mut [u8], ends: &mut [u32]) -> Names
+    requires { ⌜ length (now run) ≤ 4096 ⌝ }
+    ensures { λ r. ⌜ (r .len ≤ length (now (run .exit))) × (r .count ≤ length (now (ends .exit))) ⌝ }
+{
+    let mut next = from;
+    let mut len: usize = 0;
+    let mut count: usize = 0;
+    while count < ends.len() {
+        let name = word(line, next);
+        let a = name.start;
+        let e = name.end;
+        if a == e {
+            return Names { len, count };
+        }
+        len = put(run, len, &line[a..e]);
+        ends[count] = len as u32;
+        count += 1;
+        next = e;
+    }
+    Names { len, count }
+}
+
+// A line's words fit the run, which is as long as all of stdin may be; of ends there is room for one more than `find` takes.
+fn find_names(line: &[u8], from: usize, dict: &[u8], object: &[u8]) {
+    let mut run = io::buffer();
+    let mut ends = [0u32; 65];
+    let names = gather(line, from, &mut run, &mut ends);
+    let n = names.len;
+    let k = names.count;
+    command::find(dict, object, &run[0..n], &ends[0..k]);
+}
+
 fn act(line: &[u8]) {
     let verb = word(line, 0);
     let one = word(line, verb.end);
     let two = word(line, one.end);
-    let three = word(line, two.end);
     let a = verb.start;
     let b = verb.end;
     let c = one.start;
     let d = one.end;
     let e = two.start;
     let f = two.end;
-    let g = three.start;
-    let h = three.end;
-    command::act(
-        count(line),
-        &line[a..b],
-        &line[c..d],
-        &line[e..f],
-        &line[g..h],
-    );
+    let n = count(line);
+    if 5 <= n && check::same(&line[a..b], b"find") {
+        find_names(line, f, &line[c..d], &line[e..f]);
+    } else {
+        command::act(n, &line[a..b], &line[c..d], &line[e..f]);
+    }
 }
 
 fn run(text: &[u8]) {

@@ -26,9 +26,17 @@ fn answer(t: Tally, question: &[u8], want: &[u8]) -> Tally {
     let mut dict = [0u8; 64];
     let mut object = [0u8; 64];
     let mut query = [0u8; 64];
-    let mut room = [0u32; 16];
+    let mut ends = [0u32; 16];
+    let mut room = [0u32; 20];
     let words: &mut [u32] = &mut room;
-    let outcome = cases::answer(question, &mut dict, &mut object, &mut query, words);
+    let outcome = cases::answer(
+        question,
+        &mut dict,
+        &mut object,
+        &mut query,
+        &mut ends,
+        words,
+    );
     judge(t, want, outcome, words)
 }
 

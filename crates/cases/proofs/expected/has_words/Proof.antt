@@ -1,9 +1,9 @@
--- `cases::expected::listed_words` is safe: it stays within the words. Assumes nothing.
+-- `cases::expected::has_words` is safe: it stays within the words. Assumes nothing.
 use Prim.Native.Nat.{_-_, _≤_}
 use borrow.Author.Needs.{needs}
 use lib.ListN.{length}
-use Rattle.cases.proofs.expected.listed_words.Statement.{statement}
-use Rattle.cases.proofs.expected.listed_words.Tie as tie
+use Rattle.cases.proofs.expected.has_words.Statement.{statement}
+use Rattle.cases.proofs.expected.has_words.Tie as tie
 
 abbrev Inv-loop : tie.InvT-loop
 Inv-loop text from words at₀ i₀ i-end at i = i-end ≤ length words
@@ -11,8 +11,8 @@ Inv-loop text from words at₀ i₀ i-end at i = i-end ≤ length words
 abbrev μ-loop : tie.MeasureT-loop
 μ-loop text from words at₀ i₀ i-end at i = i-end - i
 
-pub listed-words-spec : {M : Type 1} → statement M
-listed-words-spec =
+pub has-words-spec : {M : Type 1} → statement M
+has-words-spec =
     tie.close
     (tie.spec
     Inv-loop

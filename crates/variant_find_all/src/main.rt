@@ -1,0 +1,4 @@
+// `variant find` of several names on files.
+fn main() {
+    command::run();
+}
