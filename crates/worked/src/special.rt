@@ -75,6 +75,45 @@ fn bytes_after_p() -> usize {
     b
 }
 
+// Word k of 16 that were 9, after names of P are looked up at one check.
+fn word_after(ends: &[u32], k: usize) -> usize {
+    let mut words = [9u32; 16];
+    ask::lookup_all(
+        b"\x11\x02\x00\x04\x08flowroll",
+        b"\x02\x02\x00\x01\x01\x00\x03\x04\x0C\xFB",
+        b"flowrolroll",
+        ends,
+        &mut words,
+    );
+    if 16 <= k {
+        return 0;
+    }
+    ask::wide(words[k])
+}
+
+// The words after those of the names stay, and with a refusal all do.
+fn words_that_stay(t: Tally) -> Tally {
+    let t = number(
+        t,
+        b"P, three names into 16 words of 9, word 14",
+        word_after(&[4, 7, 11], 14),
+        10,
+    );
+    let t = number(t, b"word 15, which stays", word_after(&[4, 7, 11], 15), 9);
+    let t = number(
+        t,
+        b"an end that falls, word 0, which stays",
+        word_after(&[4, 3, 11], 0),
+        9,
+    );
+    number(
+        t,
+        b"four names into 16 words, word 0, which stays",
+        word_after(&[4, 7, 11, 11], 0),
+        9,
+    )
+}
+
 // 65,536 bytes are read, and one more is refused.
 fn long_dictionary(t: Tally) -> Tally {
     let mut long = [0u8; 65537];
@@ -113,7 +152,7 @@ fn long_object(t: Tally) -> Tally {
 }
 
 pub fn run(t: Tally) -> Tally {
-    let t = of_empty(of_p(rooms(t)));
+    let t = words_that_stay(of_empty(of_p(rooms(t))));
     let t = number(
         t,
         b"P and any byte, \"flow\" found as in P",
