@@ -24,4 +24,4 @@ write-row-spec =
     (λ c. search needs) (λ c. search needs)
     (λ c. simp length-set (omega arith))  -- slice-write-words-5
     (λ c. search needs)
-    (λ c. five _ _ _ _ _ _ _))  -- returns
+    (λ c. let r = c .args .row in five (c .args .words .now) (c .args .at) (r .code) (r .field) (r .id) (r .start) (r .end)))  -- returns
