@@ -1,13 +1,11 @@
 -- What a host learns from many names at one check: the strip's words, exactly when, and the rows. Of 45 the place is a name's number, which a
 -- strip carries whole where there are no more than 4,294,967,296 names. Assumes nothing.
-use Rattle.rules.proofs.Prelude.{_≡_, refl, sym, ap, _∙_, _↔_, List, [], _∷_, _++_, ℕ, _*_, _≤_, _<_, decLt, arith, lt-ltb, le-ltb, length, drop, getD, each}
+use Rattle.rules.proofs.Prelude.{_≡_, refl, ap, _∙_, _↔_, List, _++_, ℕ, _*_, _≤_, _<_, decLt, arith, lt-ltb, le-ltb, length, drop, getD, each}
 use lib.Seq.{drop-at}
 use Rattle.rules.proofs.Rows.{rows-length}
-use Rattle.run.specs.Run.{name}
 use Rattle.object.proofs.Refuses.{is-due}
 use Rattle.object.proofs.Fits.{checks-code, layer-small}
 use Rattle.lookup.specs.Many.{row, lookups, rowsAfter}
-use Rattle.lookup.specs.Meaning.{Found, Absent, Answered, rowAt}
 use Rattle.lookup.proofs.Rows.{row-five}
 use Rattle.lookup.proofs.ManyMeans as many
 use Rattle.lookup.proofs.AllRows as rows
@@ -50,7 +48,9 @@ module _ (d o names ends words : List ℕ) (few : length ends ≤ 4294967296) wh
         -- what stands after the rows
         rest : wordsAfter ≡ each (row d o names ends) (length ends) ++ drop (5 * length ends) words
             → drop (5 * length ends) wordsAfter ≡ drop (5 * length ends) words
-        rest is = rw is (drop-at (each (row d o names ends) (length ends)) (drop (5 * length ends) words) (5 * length ends) (rows-length (row d o names ends) 5 (row-five d o names ends) (length ends)))
+        rest is =
+            let rows = each (row d o names ends) (length ends) in
+            rw is (drop-at rows (drop (5 * length ends) words) (5 * length ends) (rows-length (row d o names ends) 5 (row-five d o names ends) (length ends)))
 
         by-case : {six : List ℕ} → AllSays d o names ends words six → wordsAfter ≡ rowsAfter d o names ends words → FillsAll d o names ends words (getD six 0 0) wordsAfter
         by-case (answered a) is = record {

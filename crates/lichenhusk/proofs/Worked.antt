@@ -24,5 +24,6 @@ unfolding le bytesOf upTo leadOf tailsOf char textUpTo begins isCut compareOf be
     dictionary.region dictionary.name dictionary.entryRules dictionary.checks dictionary.verdict
     object.basicType object.offsetWidth object.idWidth object.countWidth object.count object.idsStart object.id object.offsetsStart
     object.offset object.start object.end object.fieldName object.nameRules object.offsetRules object.checks object.verdict
-    by-name.lookup run.begin run.name run.endRules run.checks many.row many.manyChecks many.lookups many.rowsAfter listing.leastAbove listing.span listing.row listing.listChecks listing.wordsAfter bytesOfWords stripAfter
+    by-name.lookup run.begin run.name run.endRules run.checks many.row many.manyChecks many.lookups many.rowsAfter
+    listing.leastAbove listing.span listing.row listing.listChecks listing.wordsAfter bytesOfWords stripAfter
 worked = refl

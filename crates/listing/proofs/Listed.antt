@@ -1,6 +1,6 @@
 -- The words of a listing: three a field in field order, its id, its start and its span.
 -- The span runs to the least of the n + 1 offsets above the field's own, and is 0 if none is. Assumes nothing.
-use Rattle.rules.proofs.Prelude.{_≡_, refl, _∙_, _⊎_, inl, inr, Bool, true, false, cond, _&&_, _||_, List, _++_, ℕ, zero, suc, _+_, _-_, _*_, _≤_, _<_, decLt}
+use Rattle.rules.proofs.Prelude.{_≡_, refl, _∙_, _⊎_, inl, inr, Bool, true, false, cond, _&&_, _||_, List, ℕ, zero, suc, _+_, _-_, _*_, _≤_, _<_}
 use Rattle.rules.proofs.Prelude.{add-zero, arith, ltb-true, ltb-false, leb-true, leb-false, ltb, leb, getD, and-last}
 use Rattle.rules.proofs.Rows.{row-word}
 use Rattle.object.specs.Object.{count, id, offset, start}

@@ -1,5 +1,5 @@
 -- What the steps find is what the lookup of a name alone answers, and rows of it are written one after another. Assumes nothing.
-use Rattle.rules.proofs.Prelude.{_≡_, refl, sym, _∙_, List, [], _∷_, _++_, ℕ, _+_, _*_, _≤_, arith, length, drop, sets, Answer, gives, each, pass, answered}
+use Rattle.rules.proofs.Prelude.{_≡_, refl, sym, List, _++_, ℕ, _+_, _*_, _≤_, arith, length, drop, sets, Answer, gives, each, pass, answered}
 use Rattle.rules.proofs.Rows.{rows-more}
 use Rattle.names.specs.Search.{Sought, seek}
 use Rattle.names.specs.Search.Sought.{nowhere, here}

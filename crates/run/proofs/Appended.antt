@@ -1,5 +1,5 @@
 -- Bytes after the last end are ignored: where the ends are good, more bytes after the run change neither that nor any name. Assumes nothing.
-use Rattle.rules.proofs.Prelude.{_≡_, List, _++_, ℕ, _≤_, _<_, arith, length, length-append, pass}
+use Rattle.rules.proofs.Prelude.{_≡_, List, _++_, ℕ, _<_, arith, length, length-append, pass}
 use Rattle.part.proofs.Laws.{part-append}
 use Rattle.run.specs.Run.{name, checks}
 use Rattle.run.specs.Meaning.{GoodEnds}

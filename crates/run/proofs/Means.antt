@@ -1,5 +1,5 @@
 -- The ends pass exactly when all are good, and stop with 45 at k exactly when name k is the first whose end is not. Assumes nothing.
-use Rattle.rules.proofs.Prelude.{_≡_, refl, sym, _∙_, _↔_, _⊎_, ⊎-elim, inl, inr, List, ℕ, _+_, _≤_, _<_, add-one, decLt, arith, length, first, Passed, pass, stop, _&_, Meant}
+use Rattle.rules.proofs.Prelude.{_≡_, refl, sym, _∙_, _↔_, _⊎_, ⊎-elim, inl, inr, List, ℕ, _+_, _≤_, _<_, add-one, decLt, arith, length, Passed, pass, stop, _&_, Meant}
 use Rattle.rules.proofs.Prelude.{by-each, meant-map, meant-pass, meant-stop, each-pass, each-stop, first-at}
 use Rattle.run.specs.declared.Ends.{Ends}
 use Rattle.run.specs.declared.Ends.the-variants as answers

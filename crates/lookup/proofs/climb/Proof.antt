@@ -1,5 +1,5 @@
 -- `lookup::climb` meets its contract: the quotient is 1, or 0. Assumes nothing.
-use Rattle.rules.proofs.Prelude.{_≡_, refl, cond, ℕ, _+_, _-_, _*_, _/_, _≤_, _<_, decLt, arith, needs, lt-ltb, le-ltb, ltb}
+use Rattle.rules.proofs.Prelude.{_≡_, refl, cond, ℕ, _+_, _-_, _*_, _/_, _≤_, _<_, decLt, arith, lt-ltb, le-ltb, ltb}
 use native.Mathlib.Nat.{mul-one, mul-zero}
 use Rattle.lookup.proofs.climb.Statement.{statement}
 use Rattle.lookup.proofs.climb.Tie as tie

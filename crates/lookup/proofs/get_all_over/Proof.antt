@@ -1,5 +1,5 @@
 -- `lookup::get_all_over` meets its contract: the refusal, or 41, or the rows. Assumes nothing.
-use Rattle.rules.proofs.Prelude.{_≡_, sym, _∙_, _*_, _≤_, _<_, arith, needs, length, refused, answered, stops, goes, first-at, first-pass}
+use Rattle.rules.proofs.Prelude.{sym, _∙_, _*_, _≤_, _<_, arith, needs, length, refused, answered, stops, goes, first-at, first-pass}
 use Rattle.run.proofs.Means.{good}
 use Rattle.lookup.specs.Many.{manyChecks, lookups, rowsAfter}
 use Rattle.lookup.proofs.get_all_over.Statement.{statement}
@@ -19,7 +19,8 @@ get-all-over-spec =
     (λ c κs. let s = c .before .before .before .before .before .before .before .before .before .before .before .before in
     let m = rw (c .before .before .before .before .opening2 .given .1) at (c .before .before .before .before .before .before .«open» .ensures) in
     (m, s .pre, omega arith))  -- write-rows-requires
-    (λ c. let e = goes _ (good _ _ .1 (c .before .before .before .before .before .before .before .before .before .pre)) ∙ stops _ (rw (c .before .opening .given .1) at (c .before .before .before .«open» .ensures)) in
+    (λ c. let e = goes _ (good _ _ .1 (c .before .before .before .before .before .before .before .before .before .pre)) ∙ stops _
+    (rw (c .before .opening .given .1) at (c .before .before .before .«open» .ensures)) in
     record { answers = sym (refused _ e); leaves = rw e })  -- returns-2
     (λ c. search needs)  -- same-length
     (λ c. let s = c .before .before .before .before .before .before .before .before .before .before .before .before .before .before .before in

@@ -33,10 +33,30 @@ narrow-spec =
       above = fewer-above _ _ q _ _ (omega (arith, s .pre .layered .count-is)) (none-above _ _ q);
     } in
     (λ p. omega (arith, s .pre .layered .count-is), all _, all _, all _, all _))  -- loop-holds
-    (λ c κs. let i = c .before .loop .inv in (c .before .before .before .before .before .before .before .before .before .before .before .before .pre, omega (arith, i .1 .inside), c .before .before .before .before .before .key .ensures .small))  -- probe-requires
-    (λ c κs. let i = c .before .before .loop .inv in (c .before .before .before .before .before .before .before .before .before .before .before .before .before .pre, omega (arith, i .2 .inside), c .before .before .before .before .before .key2 .ensures .small))  -- probe-requires-2
-    (λ c κs. let i = c .before .before .before .loop .inv in (c .before .before .before .before .before .before .before .before .before .before .before .before .before .before .pre, omega (arith, i .3 .inside), c .before .before .before .before .before .key3 .ensures .small))  -- probe-requires-3
-    (λ c κs. let i = c .before .before .before .before .loop .inv in (c .before .before .before .before .before .before .before .before .before .before .before .before .before .before .before .pre, omega (arith, i .4 .inside), c .before .before .before .before .before .key4 .ensures .small))  -- probe-requires-4
+    (λ c κs. let i = c .before .loop .inv in (
+      c .before .before .before .before .before .before .before .before .before .before .before .before .pre,
+      omega
+          (arith, i .1 .inside),
+      c .before .before .before .before .before .key .ensures .small,
+    ))  -- probe-requires
+    (λ c κs. let i = c .before .before .loop .inv in (
+      c .before .before .before .before .before .before .before .before .before .before .before .before .before .pre,
+      omega
+          (arith, i .2 .inside),
+      c .before .before .before .before .before .key2 .ensures .small,
+    ))  -- probe-requires-2
+    (λ c κs. let i = c .before .before .before .loop .inv in (
+      c .before .before .before .before .before .before .before .before .before .before .before .before .before .before .pre,
+      omega
+          (arith, i .3 .inside),
+      c .before .before .before .before .before .key3 .ensures .small,
+    ))  -- probe-requires-3
+    (λ c κs. let i = c .before .before .before .before .loop .inv in (
+      c .before .before .before .before .before .before .before .before .before .before .before .before .before .before .before .pre,
+      omega
+          (arith, i .4 .inside),
+      c .before .before .before .before .before .key4 .ensures .small,
+    ))  -- probe-requires-4
     (λ c. omega arith) (λ c. omega arith)
     (λ c. let s = c .before .before .before .before .before .before .before .before .before .before .before .before .before .before .before .before in
     let passes = s .pre .passes in
@@ -48,8 +68,14 @@ narrow-spec =
     let first = narrowed _ _ _ passes p-is (l .a) (l .size) (l .size / 2) _ (omega arith) (omega arith) (l .inv .1 .inside) (l .inv .1 .above) (c .before .before .before .probe .ensures) in
     let second = narrowed _ _ _ passes q-is (l .b) (l .size) (l .size / 2) _ (omega arith) (omega arith) (l .inv .2 .inside) (l .inv .2 .above) (c .before .before .probe2 .ensures) in
     let third = narrowed _ _ _ passes r-is (l .c) (l .size) (l .size / 2) _ (omega arith) (omega arith) (l .inv .3 .inside) (l .inv .3 .above) (c .before .probe3 .ensures) in
-    let fourth = narrowed _ _ _ passes s-is (l .d) (l .size) (l .size / 2) _ (omega arith) (omega arith) (l .inv .4 .inside) (l .inv .4 .above) (c .probe4 .ensures) in
-    (λ p. omega arith, record { inside = first .0; above = first .1 }, record { inside = second .0; above = second .1 }, record { inside = third .0; above = third .1 }, record { inside = fourth .0; above = fourth .1 }))  -- loop-again
+    let fourth = narrowed _ _ _ passes s-is (l .d) (l .size) (l .size / 2) _ (omega arith) (omega arith) (l .inv .4 .inside) (l .inv .4 .above) (c .probe4 .ensures) in (
+      λ p. omega arith,
+      record { inside = first .0; above = first .1 },
+      record { inside = second .0; above = second .1 },
+      record { inside = third .0; above = third .1 },
+      record
+          { inside = fourth .0; above = fourth .1 },
+    ))  -- loop-again
     (λ c. let l = c .before .loop in let a = c .before .before .before .before .before .before .before .before .before .before .before .before .args in (
       record {
         key-is = rw (part-whole (a .first .now)) at (c .before .before .before .before .before .key .ensures);

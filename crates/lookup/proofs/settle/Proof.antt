@@ -20,7 +20,8 @@ inside : {d o q : List ℕ} {h : Header} {l : Layer} {spot : Spot} → Opened d 
 inside p n = p .1 .inside (omega (arith, p .0 .layered .count-is))
 
 -- and the key is that of its name
-key-is : (c : tie.After-key) → let s = c .before .before .before .before .before .before .before .before in KeyOf (fieldName (s .args .dict .now) (s .args .object .now) (s .args .spot .at)) (c .key .result)
+key-is : (c : tie.After-key) → let s = c .before .before .before .before .before .before .before .before in
+    KeyOf (fieldName (s .args .dict .now) (s .args .object .now) (s .args .spot .at)) (c .key .result)
 unfolding fieldName
 key-is c = rw (c .before .span-of .ensures .name-is, c .before .before .id-at .ensures .0) at (c .key .ensures)
 
@@ -35,12 +36,19 @@ settle-spec =
     (s .pre .0 .over, omega (arith, entry-of (s .args .dict .now) (s .args .object .now) (s .pre .0 .passes) _ (inside (s .pre) (c .before .if1 .left)))))  -- span-of-requires
     (λ c κs. search needs)  -- key-requires
     (λ c. let s = c .before .before .before .before .before .before .before .before .before .before in
-    sym (not-there _ _ _ (s .pre .0 .passes) _ (inside (s .pre) (c .before .before .before .before .before .if1 .left)) (s .pre .1 .above) (key-before (key-is (c .before .before)) (s .pre .1 .key-is) (omega arith))))  -- returns-2
+    sym (not-there _ _ _ (s .pre .0 .passes) _ (inside (s .pre) (c .before .before .before .before .before .if1 .left)) (s .pre .1 .above)
+    (key-before (key-is (c .before .before)) (s .pre .1 .key-is) (omega arith))))  -- returns-2
     (λ c. search needs) (λ c. search needs) (λ c. search needs)
-    (λ c κs. key-alike (c .before .before .before .before .before .key .ensures) (c .before .before .before .before .before .before .before .before .before .before .before .before .before .pre .1 .key-is) (omega arith))  -- same-rest-requires
+    (λ c κs. key-alike (c .before .before .before .before .before .key .ensures)
+    (c .before .before .before .before .before .before .before .before .before .before .before .before .before .pre .1 .key-is) (omega arith))  -- same-rest-requires
     (λ c. let s = c .before .before .before .before .before .before .before .before .before .before .before .before .before .before .before in
+    let span = c .before .before .before .before .before .before .before .before in
     let name-is = is-same _ _ (sym (c .before .same-rest .ensures) ∙ c .if4 .taken) in
-    sym (is-there _ _ _ (s .pre .0 .passes) _ (inside (s .pre) (c .before .before .before .before .before .before .before .before .before .before .if1 .left)) (s .pre .1 .above) (rw (c .before .before .before .before .before .before .before .before .span-of .ensures .name-is, c .before .before .before .before .before .before .before .before .before .id-at .ensures .0) at name-is)))  -- returns-3
-    (λ c. let s = c .before .before .before .before .before .before .before .before .before .before .before .before .before in omega (arith, inside (s .pre) (c .before .before .before .before .before .before .before .before .if1 .left), s .pre .0 .layered .passes, count-below (s .args .object .now)))  -- add-find
-    (λ c κs. let s = c .before .before .before .before .before .before .before .before .before .before .before .before .before in (s .pre .0, omega (arith, inside (s .pre) (c .before .before .before .before .before .before .before .before .if1 .left)), s .pre .1 .above))  -- find-requires
+    let field-is = rw (span .span-of .ensures .name-is, span .before .id-at .ensures .0) at name-is in
+    sym (is-there _ _ _ (s .pre .0 .passes) _ (inside (s .pre) (span .before .before .if1 .left)) (s .pre .1 .above) field-is))  -- returns-3
+    (λ c. let s = c .before .before .before .before .before .before .before .before .before .before .before .before .before in
+    let at = inside (s .pre) (c .before .before .before .before .before .before .before .before .if1 .left) in
+    omega (arith, at, s .pre .0 .layered .passes, count-below (s .args .object .now)))  -- add-find
+    (λ c κs. let s = c .before .before .before .before .before .before .before .before .before .before .before .before .before in
+    (s .pre .0, omega (arith, inside (s .pre) (c .before .before .before .before .before .before .before .before .if1 .left)), s .pre .1 .above))  -- find-requires
     (λ c. search needs))  -- returns-4

@@ -54,24 +54,51 @@ spots-spec =
     (λ c κs. omega (arith, c .before .before .before .before .before .before .before .pre .2 .is-name))  -- end-at-requires-3
     (λ c. let s = c .before .before .before .before .before .before .before .before in omega (arith, s .pre .2 .is-name, s .good))  -- add-end-at-3
     (λ c κs. omega (arith, c .before .before .before .before .before .before .before .before .pre .2 .is-name))  -- end-at-requires-4
-    (λ c. let s = c .before .before .before .before .before .before .before .before .before in let p = own-end _ _ (s .pre .1) _ (s .pre .2 .is-name) (c .before .before .before .end-at .ensures) in let g = s .pre .1 _ (s .pre .2 .is-name) in omega (arith, p, g .rises, s .pre .2 .begins))  -- sub-first
-    (λ c. let s = c .before .before .before .before .before .before .before .before .before in let p = own-end _ _ (s .pre .1) _ (s .pre .2 .is-name) (c .before .before .before .end-at .ensures) in let g = s .pre .1 _ (s .pre .2 .is-name) in omega (arith, p, g .rises, s .pre .2 .begins))  -- part-first-start
-    (λ c. let s = c .before .before .before .before .before .before .before .before .before in let p = own-end _ _ (s .pre .1) _ (s .pre .2 .is-name) (c .before .before .before .end-at .ensures) in let g = s .pre .1 _ (s .pre .2 .is-name) in omega (arith, p, g .inside))  -- part-first-end
-    (λ c. let s = c .before .before .before .before .before .before .before .before .before .before in let e = after _ _ (s .pre .1) (omega (arith, s .pre .2 .is-name)) _ _ (omega arith) (c .before .before .before .before .end-at .ensures) (c .before .before .before .end-at2 .ensures) in omega (arith, e .0))  -- sub-second
-    (λ c. let s = c .before .before .before .before .before .before .before .before .before .before in let e = after _ _ (s .pre .1) (omega (arith, s .pre .2 .is-name)) _ _ (omega arith) (c .before .before .before .before .end-at .ensures) (c .before .before .before .end-at2 .ensures) in omega (arith, e .0))  -- part-second-start
-    (λ c. let s = c .before .before .before .before .before .before .before .before .before .before in let e = after _ _ (s .pre .1) (omega (arith, s .pre .2 .is-name)) _ _ (omega arith) (c .before .before .before .before .end-at .ensures) (c .before .before .before .end-at2 .ensures) in omega (arith, e .1))  -- part-second-end
-    (λ c. let s = c .before .before .before .before .before .before .before .before .before .before .before in let e = after _ _ (s .pre .1) (omega (arith, s .pre .2 .is-name)) _ _ (omega arith) (c .before .before .before .before .end-at2 .ensures) (c .before .before .before .end-at3 .ensures) in omega (arith, e .0))  -- sub-third
-    (λ c. let s = c .before .before .before .before .before .before .before .before .before .before .before in let e = after _ _ (s .pre .1) (omega (arith, s .pre .2 .is-name)) _ _ (omega arith) (c .before .before .before .before .end-at2 .ensures) (c .before .before .before .end-at3 .ensures) in omega (arith, e .0))  -- part-third-start
-    (λ c. let s = c .before .before .before .before .before .before .before .before .before .before .before in let e = after _ _ (s .pre .1) (omega (arith, s .pre .2 .is-name)) _ _ (omega arith) (c .before .before .before .before .end-at2 .ensures) (c .before .before .before .end-at3 .ensures) in omega (arith, e .1))  -- part-third-end
-    (λ c. let s = c .before .before .before .before .before .before .before .before .before .before .before .before in let e = after _ _ (s .pre .1) (omega (arith, s .pre .2 .is-name)) _ _ (omega arith) (c .before .before .before .before .end-at3 .ensures) (c .before .before .before .end-at4 .ensures) in omega (arith, e .0))  -- sub-narrow
-    (λ c. let s = c .before .before .before .before .before .before .before .before .before .before .before .before in let e = after _ _ (s .pre .1) (omega (arith, s .pre .2 .is-name)) _ _ (omega arith) (c .before .before .before .before .end-at3 .ensures) (c .before .before .before .end-at4 .ensures) in omega (arith, e .0))  -- part-narrow-start
-    (λ c. let s = c .before .before .before .before .before .before .before .before .before .before .before .before in let e = after _ _ (s .pre .1) (omega (arith, s .pre .2 .is-name)) _ _ (omega arith) (c .before .before .before .before .end-at3 .ensures) (c .before .before .before .end-at4 .ensures) in omega (arith, e .1))  -- part-narrow-end
+    (λ c. let s = c .before .before .before .before .before .before .before .before .before in
+    let p = own-end _ _ (s .pre .1) _ (s .pre .2 .is-name) (c .before .before .before .end-at .ensures) in let g = s .pre .1 _ (s .pre .2 .is-name) in
+    omega (arith, p, g .rises, s .pre .2 .begins))  -- sub-first
+    (λ c. let s = c .before .before .before .before .before .before .before .before .before in
+    let p = own-end _ _ (s .pre .1) _ (s .pre .2 .is-name) (c .before .before .before .end-at .ensures) in let g = s .pre .1 _ (s .pre .2 .is-name) in
+    omega (arith, p, g .rises, s .pre .2 .begins))  -- part-first-start
+    (λ c. let s = c .before .before .before .before .before .before .before .before .before in
+    let p = own-end _ _ (s .pre .1) _ (s .pre .2 .is-name) (c .before .before .before .end-at .ensures) in let g = s .pre .1 _ (s .pre .2 .is-name) in
+    omega (arith, p, g .inside))  -- part-first-end
+    (λ c. let s = c .before .before .before .before .before .before .before .before .before .before in
+    let e = after _ _ (s .pre .1) (omega (arith, s .pre .2 .is-name)) _ _ (omega arith) (c .before .before .before .before .end-at .ensures)
+    (c .before .before .before .end-at2 .ensures) in omega (arith, e .0))  -- sub-second
+    (λ c. let s = c .before .before .before .before .before .before .before .before .before .before in
+    let e = after _ _ (s .pre .1) (omega (arith, s .pre .2 .is-name)) _ _ (omega arith) (c .before .before .before .before .end-at .ensures)
+    (c .before .before .before .end-at2 .ensures) in omega (arith, e .0))  -- part-second-start
+    (λ c. let s = c .before .before .before .before .before .before .before .before .before .before in
+    let e = after _ _ (s .pre .1) (omega (arith, s .pre .2 .is-name)) _ _ (omega arith) (c .before .before .before .before .end-at .ensures)
+    (c .before .before .before .end-at2 .ensures) in omega (arith, e .1))  -- part-second-end
+    (λ c. let s = c .before .before .before .before .before .before .before .before .before .before .before in
+    let e = after _ _ (s .pre .1) (omega (arith, s .pre .2 .is-name)) _ _ (omega arith) (c .before .before .before .before .end-at2 .ensures)
+    (c .before .before .before .end-at3 .ensures) in omega (arith, e .0))  -- sub-third
+    (λ c. let s = c .before .before .before .before .before .before .before .before .before .before .before in
+    let e = after _ _ (s .pre .1) (omega (arith, s .pre .2 .is-name)) _ _ (omega arith) (c .before .before .before .before .end-at2 .ensures)
+    (c .before .before .before .end-at3 .ensures) in omega (arith, e .0))  -- part-third-start
+    (λ c. let s = c .before .before .before .before .before .before .before .before .before .before .before in
+    let e = after _ _ (s .pre .1) (omega (arith, s .pre .2 .is-name)) _ _ (omega arith) (c .before .before .before .before .end-at2 .ensures)
+    (c .before .before .before .end-at3 .ensures) in omega (arith, e .1))  -- part-third-end
+    (λ c. let s = c .before .before .before .before .before .before .before .before .before .before .before .before in
+    let e = after _ _ (s .pre .1) (omega (arith, s .pre .2 .is-name)) _ _ (omega arith) (c .before .before .before .before .end-at3 .ensures)
+    (c .before .before .before .end-at4 .ensures) in omega (arith, e .0))  -- sub-narrow
+    (λ c. let s = c .before .before .before .before .before .before .before .before .before .before .before .before in
+    let e = after _ _ (s .pre .1) (omega (arith, s .pre .2 .is-name)) _ _ (omega arith) (c .before .before .before .before .end-at3 .ensures)
+    (c .before .before .before .end-at4 .ensures) in omega (arith, e .0))  -- part-narrow-start
+    (λ c. let s = c .before .before .before .before .before .before .before .before .before .before .before .before in
+    let e = after _ _ (s .pre .1) (omega (arith, s .pre .2 .is-name)) _ _ (omega arith) (c .before .before .before .before .end-at3 .ensures)
+    (c .before .before .before .end-at4 .ensures) in omega (arith, e .1))  -- part-narrow-end
     (λ c κs. c .before .before .before .before .before .before .before .before .before .before .before .before .before .pre .0)  -- narrow-requires
     (λ c. let s = c .before .before .before .before .before .before .before .before .before .before .before .before .before .before in
     let p = own-end _ _ (s .pre .1) _ (s .pre .2 .is-name) (c .before .before .before .before .before .before .before .before .end-at .ensures) in
-    let q = after _ _ (s .pre .1) (omega (arith, s .pre .2 .is-name)) _ _ (omega arith) (c .before .before .before .before .before .before .before .before .end-at .ensures) (c .before .before .before .before .before .before .before .end-at2 .ensures) in
-    let r = after _ _ (s .pre .1) (omega (arith, s .pre .2 .is-name)) _ _ (omega arith) (c .before .before .before .before .before .before .before .end-at2 .ensures) (c .before .before .before .before .before .before .end-at3 .ensures) in
-    let t = after _ _ (s .pre .1) (omega (arith, s .pre .2 .is-name)) _ _ (omega arith) (c .before .before .before .before .before .before .end-at3 .ensures) (c .before .before .before .before .before .end-at4 .ensures) in
+    let q = after _ _ (s .pre .1) (omega (arith, s .pre .2 .is-name)) _ _ (omega arith) (c .before .before .before .before .before .before .before .before .end-at .ensures)
+    (c .before .before .before .before .before .before .before .end-at2 .ensures) in
+    let r = after _ _ (s .pre .1) (omega (arith, s .pre .2 .is-name)) _ _ (omega arith) (c .before .before .before .before .before .before .before .end-at2 .ensures)
+    (c .before .before .before .before .before .before .end-at3 .ensures) in
+    let t = after _ _ (s .pre .1) (omega (arith, s .pre .2 .is-name)) _ _ (omega arith) (c .before .before .before .before .before .before .end-at3 .ensures)
+    (c .before .before .before .before .before .end-at4 .ensures) in
     record {
       this = rw (s .pre .2 .begins, p) at (c .narrow .ensures .0);
       next = λ _ u. rw (← q .2 u .0, ← q .2 u .1) (c .narrow .ensures .1);

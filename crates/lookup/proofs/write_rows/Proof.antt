@@ -1,5 +1,5 @@
 -- `lookup::write_rows` meets its contract: the loop keeps the rows before k, and after them the words as they were. Assumes nothing.
-use Rattle.rules.proofs.Prelude.{_≡_, refl, ap, _∙_, List, _++_, ℕ, _+_, _-_, _*_, _≤_, _<_, arith, needs, length, drop, getD, each, sets}
+use Rattle.rules.proofs.Prelude.{_≡_, refl, ap, _∙_, List, _++_, ℕ, _+_, _-_, _*_, _≤_, arith, length, drop, getD, each, sets}
 use Rattle.rules.proofs.Rows.{rows-none}
 use Rattle.part.specs.Part.{part}
 use Rattle.run.specs.Run.{begin as beginOf, name}
@@ -41,15 +41,26 @@ write-rows-spec =
     (s .pre .0, s .pre .1, record { is-name = omega arith; begins = l .inv .3 }, l .inv .5))  -- spots-requires
     (λ c. omega (arith, c .before .loop-test .taken, c .before .before .before .before .before .before .before .before .good)) (λ c. omega arith)
     (λ c. omega (arith, c .shared-slice-known5 .given (c .before .before .before .loop .k)))  -- cast-end
-    (λ c. let l = c .before .before .before .loop in omega (arith, c .before .before .before .before .before .before .before .before .before .pre .1 (l .k) (omega arith) .rises, l .inv .3))  -- sub-settle
-    (λ c. let l = c .before .before .before .loop in omega (arith, c .before .before .before .before .before .before .before .before .before .pre .1 (l .k) (omega arith) .rises, l .inv .3))  -- part-settle-start
+    (λ c. let l = c .before .before .before .loop in
+    omega (arith, c .before .before .before .before .before .before .before .before .before .pre .1 (l .k) (omega arith) .rises, l .inv .3))  -- sub-settle
+    (λ c. let l = c .before .before .before .loop in
+    omega (arith, c .before .before .before .before .before .before .before .before .before .pre .1 (l .k) (omega arith) .rises, l .inv .3))  -- part-settle-start
     (λ c. let l = c .before .before .before .loop in omega (arith, c .before .before .before .before .before .before .before .before .before .pre .1 (l .k) (omega arith) .inside))  -- part-settle-end
-    (λ c κs. let l = c .before .before .before .before .loop in (c .before .before .before .before .before .before .before .before .before .before .pre .0, rw (← l .inv .3) at (c .before .before .spots .ensures .this)))  -- settle-requires
-    (λ c κs. let m = c .before .before .before .before .before .before .before .before .before .before .before .before .pre .0 in (m .layered, in-layer _ _ _ (m .passes) _ (c .before .settle .ensures)))  -- row-of-requires
-    (λ c κs. let s = c .before .before .before .before .before .before .before .before .before .before .before .before .before in let i = c .before .before .before .before .before .before .before .loop .inv in omega (arith, s .pre .2, i .1, i .2, i .4))  -- write-row-requires
+    (λ c κs. let l = c .before .before .before .before .loop in (
+      c .before .before .before .before .before .before .before .before .before .before .pre .0,
+      rw (← l .inv .3) at
+          (c .before .before .spots .ensures .this),
+    ))  -- settle-requires
+    (λ c κs. let m = c .before .before .before .before .before .before .before .before .before .before .before .before .pre .0 in
+    (m .layered, in-layer _ _ _ (m .passes) _ (c .before .settle .ensures)))  -- row-of-requires
+    (λ c κs. let s = c .before .before .before .before .before .before .before .before .before .before .before .before .before in
+    let i = c .before .before .before .before .before .before .before .loop .inv in omega (arith, s .pre .2, i .1, i .2, i .4))  -- write-row-requires
     (λ c κs. tt)  -- onward-requires
-    (λ c. let s = c .before .before .before .before .before .before .before .before .before .before .before .before .before .before .before .before .before in let i = c .before .before .before .before .before .before .before .before .before .before .before .loop .inv in omega (arith, s .pre .2, i .1, i .2, s .good))  -- add-at
-    (λ c. omega (arith, c .before .before .before .before .before .before .before .before .before .before .loop-test .taken, c .before .before .before .before .before .before .before .before .before .before .before .before .before .before .before .before .before .good)) (λ c. omega (arith, c .before .before .before .before .before .before .before .before .before .before .loop-test .taken))
+    (λ c. let s = c .before .before .before .before .before .before .before .before .before .before .before .before .before .before .before .before .before in
+    let i = c .before .before .before .before .before .before .before .before .before .before .before .loop .inv in omega (arith, s .pre .2, i .1, i .2, s .good))  -- add-at
+    (λ c. let t = c .before .before .before .before .before .before .before .before .before .before in
+    omega (arith, t .loop-test .taken, t .before .before .before .before .before .before .before .good))  -- add-k
+    (λ c. omega (arith, c .before .before .before .before .before .before .before .before .before .before .loop-test .taken))  -- loop-less
     (λ c. let s = c .before .before .before .before .before .before .before .before .before .before .before .before .before .before .before .before .before in
     let l = c .before .before .before .before .before .before .before .before .before .before .before .loop in
     let a = s .args in
