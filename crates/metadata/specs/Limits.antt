@@ -3,7 +3,7 @@ use Prim.Native.Nat.{ℕ}
 
 -- the longest dictionary or object that is read (10, 20)
 unfoldable pub limit : ℕ
-limit = 65536
+limit = 16777216
 
 -- the largest number of 32 bits (14, 24)
 unfoldable pub u32Max : ℕ

@@ -15,7 +15,7 @@ ghost use Rattle.metadata.specs.Steps.{LeadOf, PlacesOf, HeaderOf, HeadO
 ghost use Rattle.metadata.specs.Promises.{CheckPromise, GetPromise, WriteEmptyPromise};
 
 // The longest dictionary or object that is read.
-pub const LIMIT: usize = 65_536;
+pub const LIMIT: usize = 16_777_216;
 
 // The largest number of 32 bits: sums are worked in 64 bits and held to it.
 pub const U32_MAX: usize = 0xFFFF_FFFF;
