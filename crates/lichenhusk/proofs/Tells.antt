@@ -38,7 +38,7 @@ use Rattle.lichenhusk.proofs.Carries.{Fits, Said, tells}
 -- WHAT THE WORDS OF EACH ANSWER SAY
 module _ (d : List ℕ) where
   pub dictionary-said : Said (DictionarySays d) (verdictWords d)
-  unfolding dictionary.verdict
+  unfolding dictionary.verdictWithin
   dictionary-said =
       by-meaning (λ x. Said (DictionarySays d) (wordsOf dictionaryShape x)) _ (dictionary-means.checks-mean d)
       (λ g. let s = dictionary-fits.accepted-small d g in (omega arith, (λ w. omega arith), accepted g))
@@ -53,7 +53,7 @@ module _ (d : List ℕ) where
 
 module _ (d o : List ℕ) where
   pub layer-said : Said (LayerSays d o) (layerWords d o)
-  unfolding object.verdict
+  unfolding object.verdictWithin
   layer-said =
       by-meaning (λ x. Said (LayerSays d o) (wordsOf layerShape x)) _ (checks-mean d o)
       (λ g. let s = layer-small d o g in (omega arith, (λ w. omega arith), layer-accepted g))

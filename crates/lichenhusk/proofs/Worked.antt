@@ -21,9 +21,9 @@ pub worked : map (λ (c : Asked × Told). tell (c .0)) starred ≡ map (λ (c : 
 unfolding le bytesOf upTo leadOf tailsOf char textUpTo begins isCut compareOf below same seek
     first each _orElse_ _otherwise_ limit u32Max
     dictionary.version dictionary.sorted dictionary.width dictionary.count dictionary.offset dictionary.start dictionary.end
-    dictionary.region dictionary.name dictionary.entryRules dictionary.checks dictionary.verdict
+    dictionary.region dictionary.name dictionary.entryRules dictionary.checksWithin dictionary.verdictWithin
     object.basicType object.offsetWidth object.idWidth object.countWidth object.count object.idsStart object.id object.offsetsStart
-    object.offset object.start object.end object.fieldName object.nameRules object.offsetRules object.checks object.verdict
-    by-name.lookup run.begin run.name run.endRules run.checks many.row many.manyChecks many.lookups many.rowsAfter
-    listing.leastAbove listing.span listing.row listing.listChecks listing.wordsAfter bytesOfWords stripAfter
+    object.offset object.start object.end object.fieldName object.nameRules object.offsetRules object.checksWithin object.verdictWithin
+    by-name.lookupWithin run.begin run.name run.endRules run.checks many.rowWithin many.manyChecksWithin many.lookupsWithin many.rowsAfterWithin
+    listing.leastAbove listing.span listing.row listing.listChecksWithin listing.wordsAfterWithin bytesOfWords stripAfter
 worked = refl

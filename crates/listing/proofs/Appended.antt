@@ -6,7 +6,7 @@ use Rattle.metadata.specs.Limits.{limit}
 use Rattle.object.specs.Object.{count, offset, start, checks, layer}
 use Rattle.object.proofs.Means.{good}
 use Rattle.object.proofs.Appended.{lifted, Settled, unlifted, counted, count-same, start-same, id-same, offset-same, layer-same, checks-kept}
-use Rattle.listing.specs.Words.{leastAbove, span, row, rows, listChecks, listed, wordsAfter}
+use Rattle.listing.specs.Words.{leastAbove, span, row, rows, listChecks, listChecksWithin, listed, listedWithin, wordsAfter, wordsAfterWithin}
 
 -- equal numbers up to n: the same least above
 least-same : (f g : ℕ → ℕ) (x n : ℕ) → ((k : ℕ) → k < n → f k ≡ g k) → leastAbove f x n ≡ leastAbove g x n
@@ -36,22 +36,22 @@ module _ (d t o u w : List ℕ) (dictionary-limit : length (d ++ t) ≤ limit) (
   written x = rows x (count x) ++ drop (3 * count x) w
 
   list-kept : Stays lifted (listChecks d o w) (listChecks (d ++ t) (o ++ u) w)
-  unfolding listChecks
+  unfolding listChecksWithin
   list-kept =
       stays-then lifted (checks d o) (checks (d ++ t) (o ++ u)) (room o) (room (o ++ u)) (checks-kept d t o u dictionary-limit object-limit) λ e.
       let g = good d o e in rw (count-same o u (omega arith)) (same-stays lifted (room o))
 
   accepted : listChecks d o w ≡ pass → checks d o ≡ pass
-  unfolding listChecks
+  unfolding listChecksWithin
   accepted e = both-pass (checks d o) _ e .0
 
   pub listed-appended : Settled (codeOf (listed d o w)) → listed (d ++ t) (o ++ u) w ≡ listed d o w
-  unfolding listed
+  unfolding listedWithin
   listed-appended s =
       stays-answer lifted (listChecks d o w) (listChecks (d ++ t) (o ++ u) w) _ _ list-kept (λ e. let g = good d o (accepted e) in layer-same o u (omega arith)) (unlifted _ s)
 
   pub words-appended : Settled (codeOf (listed d o w)) → wordsAfter (d ++ t) (o ++ u) w ≡ wordsAfter d o w
-  unfolding listed wordsAfter _otherwise_
+  unfolding listedWithin wordsAfterWithin _otherwise_
   words-appended s = go (listChecks d o w) list-kept same (unlifted _ s)
     where
       same : listChecks d o w ≡ pass → written (o ++ u) ≡ written o

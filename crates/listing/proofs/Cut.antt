@@ -4,10 +4,10 @@ use Rattle.rules.proofs.Prelude.{_≡_, ⊎-elim, List, [], _∷_, ℕ, _<_, ta
 use Rattle.metadata.specs.Dictionary as dictionary
 use Rattle.object.specs.Object.{checks, verdict}
 use Rattle.object.proofs.Cut.{dictionary-stopped, object-stopped}
-use Rattle.listing.specs.Words.{listChecks, listed, wordsAfter}
+use Rattle.listing.specs.Words.{listChecksWithin, listed, listedWithin, wordsAfter, wordsAfterWithin}
 
 after : {a b : ℕ} (d o w : List ℕ) → StopsAs a b (checks d o) → RefusedAs a b (listed d o w) × (wordsAfter d o w ≡ w)
-unfolding listed wordsAfter listChecks
+unfolding listedWithin wordsAfterWithin listChecksWithin
 after d o w s =
     let stops = stops-first s _ in (refused-as stops _, ⊎-elim (λ e. rw e) (λ e. rw e) stops)
 

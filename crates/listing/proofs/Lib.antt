@@ -6,3 +6,4 @@ pub mod Pinned
 pub mod Appended
 pub mod Cut
 pub mod Says
+pub mod Raised

@@ -7,7 +7,8 @@ use lib.ListN.{length, drop}
 use Rattle.rules.specs.Rules.{Answer, Found, first, each, _orElse_, _otherwise_, unlessRefused}
 use Rattle.rules.specs.Rules.Rule.{_⇒_at_}
 use Rattle.rules.specs.Rules.Test.{_<?_}
-use Rattle.object.specs.Object.{count, id, offset, start, checks, layer}
+use Rattle.metadata.specs.Limits.{limit}
+use Rattle.object.specs.Object.{count, id, offset, start, checksWithin, layer}
 
 -- The span runs to the least of the n + 1 offsets above the field's own, and is 0 if none is
 
@@ -29,13 +30,23 @@ row o k = id o k ∷ (start o + offset o k) ∷ span o k ∷ []
 abbrev pub rows : List ℕ → ℕ → List ℕ
 rows o = each (row o)
 
--- 41, listing room below three words a field, is checked last
-unfoldable pub listChecks : List ℕ → List ℕ → List ℕ → Found
-listChecks d o words = checks d o orElse first ((length words <? 3 * count o ⇒ 41 at 0) ∷ [])
+-- 41, listing room below three words a field, is checked last; `most` is the longest that is read
+unfoldable pub listChecksWithin : ℕ → (d o words : List ℕ) → Found
+listChecksWithin most d o words = checksWithin most d o orElse first ((length words <? 3 * count o ⇒ 41 at 0) ∷ [])
 
-unfoldable pub listed : List ℕ → List ℕ → List ℕ → Answer
-listed d o words = listChecks d o words otherwise layer o
+unfoldable pub listedWithin : ℕ → (d o words : List ℕ) → Answer
+listedWithin most d o words = listChecksWithin most d o words otherwise layer o
 
 -- Words after these stay; any refusal leaves all
-unfoldable pub wordsAfter : List ℕ → List ℕ → List ℕ → List ℕ
-wordsAfter d o words = unlessRefused (listChecks d o words) (rows o (count o) ++ drop (3 * count o) words) words
+unfoldable pub wordsAfterWithin : ℕ → (d o words : List ℕ) → List ℕ
+wordsAfterWithin most d o words = unlessRefused (listChecksWithin most d o words) (rows o (count o) ++ drop (3 * count o) words) words
+
+-- AT THE LIMIT
+abbrev pub listChecks : (d o words : List ℕ) → Found
+listChecks d o words = listChecksWithin limit d o words
+
+abbrev pub listed : (d o words : List ℕ) → Answer
+listed d o words = listedWithin limit d o words
+
+abbrev pub wordsAfter : (d o words : List ℕ) → List ℕ
+wordsAfter d o words = wordsAfterWithin limit d o words

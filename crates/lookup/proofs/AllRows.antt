@@ -10,7 +10,7 @@ use Rattle.object.proofs.Refuses.{is-due}
 use Rattle.object.proofs.Fits.{checks-code}
 use Rattle.lookup.specs.declared.Lookup.{Lookup}
 use Rattle.lookup.specs.ByName.{lookup}
-use Rattle.lookup.specs.Many.{rowOf, row, rowsAfter}
+use Rattle.lookup.specs.Many.{rowOf, row, rowWithin, rowsAfter}
 use Rattle.lookup.specs.Meaning.{Found, Absent, Answered, rowAt, foundRow, absentRow}
 use Rattle.lookup.specs.Answers.{lookupNumbers}
 use Rattle.lookup.specs.Promises.{GetPromise}
@@ -60,7 +60,7 @@ module _ (d o names ends words : List ℕ) (n v e : ℕ) (is : Answered d o name
   module _ (k : ℕ) (asked : k < length ends) where
     -- word j of name k, and all five
     pub row-is : (j : ℕ) → j < 5 → getD after (5 * k + j) 0 ≡ getD (rowOf (lookup d o (name names ends k))) j 0
-    unfolding row
+    unfolding rowWithin
     row-is j p =
         let rows = row d o names ends in
         rw (words-answered d o names ends words n v e is)

@@ -11,7 +11,7 @@ use Rattle.object.specs.Object.{count, start, fieldName, checks}
 use Rattle.object.proofs.Laws.{passes, entry-of}
 use Rattle.object.proofs.Means.{good}
 use Rattle.object.proofs.Appended.{lifted, Settled, unlifted, counted, count-same, start-same, id-same, offset-same, end-same, field-same, checks-kept}
-use Rattle.lookup.specs.ByName.{found, lookup, startOf, endOf}
+use Rattle.lookup.specs.ByName.{found, lookup, lookupWithin, startOf, endOf}
 use Rattle.lookup.proofs.Found.{child-inside}
 
 module _ (d t o u q : List ℕ) where
@@ -30,7 +30,7 @@ module _ (d t o u q : List ℕ) where
 
   module _ (dictionary-limit : length (d ++ t) ≤ limit) (object-limit : length (o ++ u) ≤ limit) (settled : Settled (codeOf (lookup d o q))) where
     pub lookup-appended : lookup (d ++ t) (o ++ u) q ≡ lookup d o q
-    unfolding lookup
+    unfolding lookupWithin
     lookup-appended =
         stays-answer lifted (checks d o) (checks (d ++ t) (o ++ u)) _ _ (checks-kept d t o u dictionary-limit object-limit) found-same (unlifted _ settled)
 

@@ -4,7 +4,7 @@ use Rattle.rules.proofs.Prelude.{_≡_, refl, ⊎-elim, List, [], _∷_, ℕ, _
 use Rattle.metadata.specs.Dictionary as dictionary
 use Rattle.object.specs.Object.{verdict}
 use Rattle.object.proofs.Cut.{dictionary-stopped, object-stopped}
-use Rattle.lookup.specs.ByName.{lookup, startOf, endOf}
+use Rattle.lookup.specs.ByName.{lookup, lookupWithin, startOf, endOf}
 
 -- the empty part at the object's start
 abbrev pub AtStart : Answer → Type 0
@@ -16,7 +16,7 @@ at-start answer r = ⊎-elim (λ e. rw e (refl, refl)) (λ e. rw e (refl, refl))
 module _ (d o q : List ℕ) (m : ℕ) where
   module _ (n e : ℕ) (accepted : dictionary.verdict d ≡ accept (n ∷ e ∷ [])) (cut : m < e) where
     pub dictionary-cut : RefusedAs 11 13 (lookup (take m d) o q)
-    unfolding lookup
+    unfolding lookupWithin
     dictionary-cut = refused-as (dictionary-stopped d o n e m accepted cut) _
 
     pub child-of-cut-dictionary : AtStart (lookup (take m d) o q)
@@ -24,7 +24,7 @@ module _ (d o q : List ℕ) (m : ℕ) where
 
   module _ (n v e : ℕ) (accepted : verdict d o ≡ accept (n ∷ v ∷ e ∷ [])) (cut : m < e) where
     pub object-cut : RefusedAs 21 23 (lookup d (take m o) q)
-    unfolding lookup
+    unfolding lookupWithin
     object-cut = refused-as (object-stopped d o n v e m accepted cut) _
 
     pub child-of-cut-object : AtStart (lookup d (take m o) q)

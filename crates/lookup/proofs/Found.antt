@@ -15,7 +15,7 @@ use Rattle.object.proofs.Means.{checks-mean}
 use Rattle.object.proofs.Accepts.{all-pass}
 use Rattle.object.proofs.Refuses.{is-due}
 use Rattle.object.proofs.Fits.{checks-code}
-use Rattle.lookup.specs.ByName.{absent, found as foundFor, lookup, startOf, endOf}
+use Rattle.lookup.specs.ByName.{absent, found as foundFor, lookup, lookupWithin, startOf, endOf}
 use Rattle.lookup.specs.Meaning.{Found, Absent, Spells}
 use Rattle.lookup.specs.Meaning.Spells.{spells}
 
@@ -26,7 +26,7 @@ module _ (d o q : List ℕ) where
   -- WHAT IS SO OF EACH CASE IS SO OF THE ANSWER
   pub by-answer : (P : Answer → Type 0) → ((k i a e : ℕ) → Found d o q k i a e → P (accept (k ∷ i ∷ a ∷ e ∷ []))) → (Absent d o q → P absent)
       → ((c p : ℕ) → Refusal d o c p → P (refuse c p)) → P (lookup d o q)
-  unfolding lookup fieldName
+  unfolding lookupWithin fieldName
   by-answer P is-found is-absent is-refused = by-meaning P _ (checks-mean d o) (λ g. go g (seek (fieldName d o) q (count o)) refl) is-refused
     where
       go : Good → (s : Sought) → seek (fieldName d o) q (count o) ≡ s → P (foundFor o s)
@@ -53,7 +53,7 @@ module _ (d o q : List ℕ) where
       (λ c p _ w. let z : _≡_ {A = ℕ} 0 1 = cc in absurd (omega arith))
 
   is-found : (k i a e : ℕ) → Found d o q k i a e → lookup d o q ≡ accept (k ∷ i ∷ a ∷ e ∷ [])
-  unfolding lookup
+  unfolding lookupWithin
   is-found k i a e f =
       let c = all-pass d o _ _ _ (f .accepted) in
       let only : (j : ℕ) → k < j → j < count o → fieldName d o j ≡ q → ⊥ = λ j p r h.
@@ -67,7 +67,7 @@ module _ (d o q : List ℕ) where
       (λ c p r w. let z : c ≡ 1 = cc in absurd (omega (arith, checks-code d o (is-due d o r))))
 
   is-absent : Absent d o q → lookup d o q ≡ absent
-  unfolding lookup
+  unfolding lookupWithin
   is-absent a = answered _ (all-pass d o _ _ _ (a .accepted)) ∙ rw (names.seek-none (fieldName d o) q (count o) (a .no-field))
 
   -- REFUSED
@@ -85,7 +85,7 @@ module _ (d o q : List ℕ) where
   absent-is = (none-there, is-absent)
 
   pub refused-is : (c p : ℕ) → (c ≡ 1 → ⊥) → (lookup d o q ≡ refuse c p) ↔ Refusal d o c p
-  unfolding lookup
+  unfolding lookupWithin
   refused-is c p n = (turned-down c p n, λ r. refused _ (is-due d o r))
 
   pub once : (n v e i j : ℕ) → Layer d o n v e → i < n → j < n → fieldName d o i ≡ q → fieldName d o j ≡ q → i ≡ j

@@ -9,3 +9,4 @@ pub mod ManyAppended
 pub mod Cut
 pub mod ManyCut
 pub mod Says
+pub mod Raised

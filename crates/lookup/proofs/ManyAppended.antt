@@ -12,7 +12,7 @@ use Rattle.object.proofs.Means.{good}
 use Rattle.object.proofs.Refuses.{is-due}
 use Rattle.object.proofs.Appended.{lifted, Settled, unlifted, layer-same, checks-kept}
 use Rattle.lookup.specs.ByName.{lookup}
-use Rattle.lookup.specs.Many.{row, manyChecks, lookups, rowsAfter}
+use Rattle.lookup.specs.Many.{row, rowWithin, manyChecks, manyChecksWithin, lookups, lookupsWithin, rowsAfter, rowsAfterWithin}
 use Rattle.lookup.proofs.Found.{by-answer}
 use Rattle.lookup.proofs.Appended.{lookup-appended}
 
@@ -37,29 +37,29 @@ module _ (d t o u names ends words : List ℕ) (dictionary-limit : length (d ++ 
   more = manyChecks (d ++ t) (o ++ u) names ends words
 
   many-kept : Stays lifted (manyChecks d o names ends words) more
-  unfolding manyChecks
+  unfolding manyChecksWithin
   many-kept =
       stays-then lifted (run.checks names ends) (run.checks names ends) _ _ (same-stays lifted (run.checks names ends)) λ _.
       stays-then lifted (checks d o) (checks (d ++ t) (o ++ u)) room room (checks-kept d t o u dictionary-limit object-limit) λ _.
       same-stays lifted room
 
   accepted : manyChecks d o names ends words ≡ pass → checks d o ≡ pass
-  unfolding manyChecks
+  unfolding manyChecksWithin
   accepted e = both-pass (checks d o) _ (both-pass (run.checks names ends) _ e .1) .0
 
   pub lookups-appended : Settled (codeOf (lookups d o names ends words)) → lookups (d ++ t) (o ++ u) names ends words ≡ lookups d o names ends words
-  unfolding lookups
+  unfolding lookupsWithin
   lookups-appended s =
       stays-answer lifted (manyChecks d o names ends words) more _ _ many-kept (λ e. let g = good d o (accepted e) in layer-same o u (omega arith)) (unlifted _ s)
 
   written-same : checks d o ≡ pass → written (d ++ t) (o ++ u) ≡ written d o
-  unfolding row
+  unfolding rowWithin
   written-same e =
       rw (each-same (row (d ++ t) (o ++ u) names ends) (row d o names ends) (length ends) λ k p.
       let q = run.name names ends k in rw (lookup-appended d t o u q dictionary-limit object-limit (settled d o q e)))
 
   pub rows-appended : Settled (codeOf (lookups d o names ends words)) → rowsAfter (d ++ t) (o ++ u) names ends words ≡ rowsAfter d o names ends words
-  unfolding lookups rowsAfter _otherwise_
+  unfolding lookupsWithin rowsAfterWithin _otherwise_
   rows-appended s = go (manyChecks d o names ends words) many-kept (λ e. written-same (accepted e)) (unlifted _ s)
     where
       go : (f : Found) → Stays lifted f more → (f ≡ pass → written (d ++ t) (o ++ u) ≡ written d o) → lifted (codeOf (f otherwise layer o)) ≡ false
@@ -70,14 +70,14 @@ module _ (d t o u names ends words : List ℕ) (dictionary-limit : length (d ++ 
 -- AFTER THE RUN OF NAMES
 module _ (d o names more ends words : List ℕ) (ends-good : GoodEnds names ends) where
   checks-same : manyChecks d o (names ++ more) ends words ≡ manyChecks d o names ends words
-  unfolding manyChecks
+  unfolding manyChecksWithin
   checks-same = rw (checks-appended names more ends ends-good, run-means.good names ends .1 ends-good)
 
   pub run-appended : lookups d o (names ++ more) ends words ≡ lookups d o names ends words
-  unfolding lookups
+  unfolding lookupsWithin
   run-appended = rw checks-same
 
   pub rows-run-appended : rowsAfter d o (names ++ more) ends words ≡ rowsAfter d o names ends words
-  unfolding rowsAfter row
+  unfolding rowsAfterWithin rowWithin
   rows-run-appended =
       rw (checks-same, each-same (row d o (names ++ more) ends) (row d o names ends) (length ends) (λ k p. rw (name-appended names more ends ends-good k p)))

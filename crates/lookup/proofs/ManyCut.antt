@@ -6,11 +6,11 @@ use Rattle.run.proofs.Means.{good}
 use Rattle.metadata.specs.Dictionary as dictionary
 use Rattle.object.specs.Object.{checks, verdict}
 use Rattle.object.proofs.Cut.{dictionary-stopped, object-stopped}
-use Rattle.lookup.specs.Many.{manyChecks, lookups, rowsAfter}
+use Rattle.lookup.specs.Many.{manyChecksWithin, lookups, lookupsWithin, rowsAfter, rowsAfterWithin}
 
 module _ (names ends words : List ℕ) (ends-good : GoodEnds names ends) where
   after : {a b : ℕ} (d o : List ℕ) → StopsAs a b (checks d o) → RefusedAs a b (lookups d o names ends words) × (rowsAfter d o names ends words ≡ words)
-  unfolding lookups rowsAfter manyChecks
+  unfolding lookupsWithin rowsAfterWithin manyChecksWithin
   after d o s =
       let stops = stops-next (good names ends .1 ends-good) (stops-first s _) in (refused-as stops _, ⊎-elim (λ e. rw e) (λ e. rw e) stops)
 

@@ -7,12 +7,12 @@ use Rattle.rules.proofs.Rows.{rows-none}
 use Rattle.run.specs.Run as run
 use Rattle.run.specs.Meaning.{BadEnd}
 use Rattle.run.proofs.Means as run-means
-use Rattle.object.specs.Object.{count, start, end, checks, verdict}
+use Rattle.object.specs.Object.{count, start, end, checks, verdict, verdictWithin}
 use Rattle.object.proofs.Means.{checks-mean}
 use Rattle.object.proofs.Accepts.{all-pass}
 use Rattle.object.proofs.Refuses.{is-due}
 use Rattle.object.proofs.Fits.{checks-code}
-use Rattle.lookup.specs.Many.{row, manyChecks, lookups, rowsAfter}
+use Rattle.lookup.specs.Many.{row, manyChecks, manyChecksWithin, lookups, lookupsWithin, rowsAfter, rowsAfterWithin}
 use Rattle.lookup.specs.Meaning.{Answered, NoRoom, RefusedAfter}
 
 module _ (d o names ends words : List ℕ) where
@@ -21,7 +21,7 @@ module _ (d o names ends words : List ℕ) where
   Ours c p = ((45 ≡ c) × BadEnd names ends p) ⊎ (RefusedAfter d o names ends c p ⊎ (NoRoom d o names ends words × (41 ≡ c) × (0 ≡ p)))
 
   many-mean : Meant (Answered d o names ends words (count o) (start o) (end o)) Ours (manyChecks d o names ends words)
-  unfolding manyChecks
+  unfolding manyChecksWithin
   many-mean =
       meant-then _ (meant-map (λ g. g) (λ c p. inl) (run-means.checks-mean names ends)) λ g.
       meant-then _ (meant-map (λ a. a) (λ c p r. inr (inl (record { good = g; due = r }))) (checks-mean d o)) λ a.
@@ -30,49 +30,49 @@ module _ (d o names ends words : List ℕ) where
 
   pub by-answer : (P : Answer → Type 0) → ((n v e : ℕ) → Answered d o names ends words n v e → P (accept (n ∷ v ∷ e ∷ []))) → ((k : ℕ) → BadEnd names ends k → P (refuse 45 k))
       → (NoRoom d o names ends words → P (refuse 41 0)) → ((c p : ℕ) → RefusedAfter d o names ends c p → P (refuse c p)) → P (lookups d o names ends words)
-  unfolding lookups
+  unfolding lookupsWithin
   by-answer P is-answered is-bad is-full is-refused =
       by-meaning P _ many-mean (is-answered _ _ _) λ c p r.
       ⊎-elim (λ b. rw (b .0) at (is-bad p (b .1))) (λ s. ⊎-elim (is-refused c p) (λ f. rw (f .1, f .2) at (is-full (f .0))) s) r
 
   -- EACH ANSWER'S CHECKS
   pub all-answered : (n v e : ℕ) → Answered d o names ends words n v e → manyChecks d o names ends words ≡ pass
-  unfolding manyChecks
+  unfolding manyChecksWithin
   all-answered n v e a =
       goes _ (run-means.good names ends .1 (a .good)) ∙ goes _ (all-pass d o n v e (a .accepted)) ∙ first-pass _ (a .room, tt)
 
   pub bad-end-stops : {k : ℕ} → BadEnd names ends k → manyChecks d o names ends words ≡ stop 45 k
-  unfolding manyChecks
+  unfolding manyChecksWithin
   bad-end-stops {k} b = stops _ (run-means.bad names ends k .1 b)
 
   pub no-room-stops : NoRoom d o names ends words → manyChecks d o names ends words ≡ stop 41 0
-  unfolding manyChecks
+  unfolding manyChecksWithin
   no-room-stops r = goes _ (run-means.good names ends .1 (r .good)) ∙ goes _ (all-pass d o _ _ _ (r .accepted)) ∙ first-at 0 _ (r .short)
 
   pub refusal-stops : {c p : ℕ} → RefusedAfter d o names ends c p → manyChecks d o names ends words ≡ stop c p
-  unfolding manyChecks
+  unfolding manyChecksWithin
   refusal-stops r = goes _ (run-means.good names ends .1 (r .good)) ∙ stops _ (is-due d o (r .due))
 
   -- THE WORDS OF EACH ANSWER
   pub words-answered : (n v e : ℕ) → Answered d o names ends words n v e → rowsAfter d o names ends words ≡ each (row d o names ends) (length ends) ++ drop (5 * length ends) words
-  unfolding rowsAfter
+  unfolding rowsAfterWithin
   words-answered n v e a = rw (all-answered n v e a)
 
   pub words-bad-end : {k : ℕ} → BadEnd names ends k → rowsAfter d o names ends words ≡ words
-  unfolding rowsAfter
+  unfolding rowsAfterWithin
   words-bad-end b = rw (bad-end-stops b)
 
   pub words-no-room : NoRoom d o names ends words → rowsAfter d o names ends words ≡ words
-  unfolding rowsAfter
+  unfolding rowsAfterWithin
   words-no-room r = rw (no-room-stops r)
 
   pub words-refused : {c p : ℕ} → RefusedAfter d o names ends c p → rowsAfter d o names ends words ≡ words
-  unfolding rowsAfter
+  unfolding rowsAfterWithin
   words-refused r = rw (refusal-stops r)
 
   -- THE THEOREMS
   pub answered-is : (n v e : ℕ) → (lookups d o names ends words ≡ accept (n ∷ v ∷ e ∷ [])) ↔ Answered d o names ends words n v e
-  unfolding lookups
+  unfolding lookupsWithin
   answered-is n v e = (
     by-answer (λ x. x ≡ accept (n ∷ v ∷ e ∷ []) → Answered d o names ends words n v e)
         (λ m s t a q. let n-is : m ≡ n = cc in let v-is : s ≡ v = cc in let e-is : t ≡ e = cc in rw (n-is, v-is, e-is) at a)
@@ -82,7 +82,7 @@ module _ (d o names ends words : List ℕ) where
   )
 
   pub bad-end-is : (k : ℕ) → (lookups d o names ends words ≡ refuse 45 k) ↔ BadEnd names ends k
-  unfolding lookups
+  unfolding lookupsWithin
   bad-end-is k = (
     by-answer (λ x. x ≡ refuse 45 k → BadEnd names ends k) (λ n v e _ q. let z : _≡_ {A = ℕ} 0 1 = cc in absurd (omega arith))
         (λ j b q. let k-is : j ≡ k = cc in rw k-is at b) (λ _ q. let z : _≡_ {A = ℕ} 41 45 = cc in absurd (omega arith))
@@ -91,7 +91,7 @@ module _ (d o names ends words : List ℕ) where
   )
 
   pub no-room-is : (lookups d o names ends words ≡ refuse 41 0) ↔ NoRoom d o names ends words
-  unfolding lookups
+  unfolding lookupsWithin
   no-room-is = (
     by-answer (λ x. x ≡ refuse 41 0 → NoRoom d o names ends words) (λ n v e _ q. let z : _≡_ {A = ℕ} 0 1 = cc in absurd (omega arith))
         (λ k _ q. let z : _≡_ {A = ℕ} 45 41 = cc in absurd (omega arith)) (λ r q. r)
@@ -100,7 +100,7 @@ module _ (d o names ends words : List ℕ) where
   )
 
   pub refused-is : (c p : ℕ) → (c ≡ 41 → ⊥) → (c ≡ 45 → ⊥) → (lookups d o names ends words ≡ refuse c p) ↔ RefusedAfter d o names ends c p
-  unfolding lookups
+  unfolding lookupsWithin
   refused-is c p not-41 not-45 = (
     by-answer (λ x. x ≡ refuse c p → RefusedAfter d o names ends c p) (λ n v e _ q. let z : _≡_ {A = ℕ} 0 1 = cc in absurd (omega arith))
         (λ k _ q. let z : c ≡ 45 = cc in absurd (not-45 z)) (λ _ q. let z : c ≡ 41 = cc in absurd (not-41 z))
@@ -111,7 +111,7 @@ module _ (d o names ends words : List ℕ) where
 -- NO NAMES: the verdict alone, and the words stay
 module _ (d o names words : List ℕ) where
   none-checked : manyChecks d o names [] words ≡ checks d o
-  unfolding manyChecks run.checks _orElse_
+  unfolding manyChecksWithin run.checks _orElse_
   none-checked = goes _ (each-none (run.endRules names [])) ∙ go (checks d o)
     where
       go : (f : Found) → (f orElse first ((length words <? 5 * 0 ⇒ 41 at 0) ∷ [])) ≡ f
@@ -119,11 +119,11 @@ module _ (d o names words : List ℕ) where
       go (stop c p) = refl
 
   pub none-is : lookups d o names [] words ≡ verdict d o
-  unfolding lookups verdict
+  unfolding lookupsWithin verdictWithin
   none-is = rw none-checked
 
   pub none-stay : rowsAfter d o names [] words ≡ words
-  unfolding rowsAfter
+  unfolding rowsAfterWithin
   none-stay = go (manyChecks d o names [] words)
     where
       go : (f : Found) → unlessRefused f (each (row d o names []) 0 ++ drop 0 words) words ≡ words

@@ -7,8 +7,8 @@ use Rattle.names.proofs.Search.{seek-at}
 use Rattle.run.specs.Run.{name}
 use Rattle.object.specs.Object.{count, fieldName, checks}
 use Rattle.object.proofs.Laws.{in-region, end-is}
-use Rattle.lookup.specs.ByName.{found, lookup}
-use Rattle.lookup.specs.Many.{rowOf, row}
+use Rattle.lookup.specs.ByName.{found, lookup, lookupWithin}
+use Rattle.lookup.specs.Many.{rowOf, row, rowWithin}
 use Rattle.lookup.specs.Steps.{InLayer}
 
 module _ (d o q : List ℕ) (passes : checks d o ≡ pass) where
@@ -19,7 +19,7 @@ module _ (d o q : List ℕ) (passes : checks d o ≡ pass) where
       (is-field, omega (arith, in-region d o passes k is-field, end-is o))
 
   pub answers : {s : Sought} → s ≡ seek (fieldName d o) q (count o) → found o s ≡ lookup d o q
-  unfolding lookup
+  unfolding lookupWithin
   answers e = rw e (sym (answered _ passes))
 
 -- a row has five words
@@ -27,10 +27,10 @@ five : (x : Answer) → length (rowOf x) ≡ 5
 five (gives c v p) = refl
 
 pub row-five : (d o names ends : List ℕ) (k : ℕ) → length (row d o names ends k) ≡ 5
-unfolding row
+unfolding rowWithin
 row-five d o names ends k = five (lookup d o (name names ends k))
 
 pub one-more : (d o names ends lent : List ℕ) {words : List ℕ} (k at : ℕ) (q : List ℕ) → words ≡ each (row d o names ends) k ++ drop at lent → at ≡ 5 * k
     → at + 5 ≤ length lent → q ≡ name names ends k → sets words at (rowOf (lookup d o q)) ≡ each (row d o names ends) (k + 1) ++ drop (at + 5) lent
-unfolding row
+unfolding rowWithin
 one-more d o names ends lent {words} k at q e a h is = rw is (rows-more (row d o names ends) 5 (row-five d o names ends) lent words k at e a h)

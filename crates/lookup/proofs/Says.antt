@@ -16,7 +16,7 @@ use Rattle.object.proofs.Pinned.{refusalBy, refusal-back}
 use Rattle.lookup.specs.declared.Lookup.{Lookup}
 use Rattle.lookup.specs.declared.Lookup.the-variants as lookup
 use Rattle.lookup.specs.declared.Lookups.the-variants as lookups
-use Rattle.lookup.specs.ByName.{lookup as lookupOf}
+use Rattle.lookup.specs.ByName.{lookupWithin}
 use Rattle.lookup.specs.Many.{rowOf, row}
 use Rattle.lookup.specs.Meaning.{Found, Absent, Spells, Answered, NoRoom, RefusedAfter, rowAt}
 use Rattle.lookup.specs.Answers.{lookupNumbers, PartOf}
@@ -54,7 +54,7 @@ module _ (d : List ℕ) (object : RefT (List ℕ)) (q : List ℕ) (r : RefT (Lis
   child-absent f = rw (absent-is d (object .now) q .1 f) at promised
 
   pub child-refused : (c p : ℕ) → Due d (object .now) c p → PartOf object r 0 0
-  unfolding lookupOf _otherwise_
+  unfolding lookupWithin _otherwise_
   child-refused c p due = rw (is-due d (object .now) due) at promised
 
 -- `get_all`, with what it leaves in the words. No case of a refusal has the number 41 or 45

@@ -9,7 +9,7 @@ use Rattle.metadata.specs.declared.Refusal.the-variants.{Empty, Short}
 use Rattle.metadata.specs.declared.Head.{Head}
 use Rattle.metadata.specs.declared.Head.the-variants as head
 use Rattle.metadata.specs.Limits.{limit}
-use Rattle.metadata.specs.Dictionary.{version, sorted, width, count, offset, start, end, region, name, headRules, regionRules, entryRules, checks, verdict, nameAt}
+use Rattle.metadata.specs.Dictionary.{version, sorted, width, count, offset, start, end, region, name, headRules, regionRules, entryRules, checks, checksWithin, verdict, verdictWithin, nameAt, nameAtWithin}
 use Rattle.metadata.specs.Steps.{CheckedOf}
 use Rattle.metadata.proofs.Laws.{count-before, start-before, offset-inside}
 use Rattle.metadata.proofs.Means.{good}
@@ -110,7 +110,7 @@ module _ (d t : List ℕ) where
       omega arith & λ f15. omega arith & λ f14′. omega arith & λ f13″. tt
 
   pub checks-kept : length (d ++ t) ≤ limit → Stays lifted (checks d) (checks (d ++ t))
-  unfolding checks
+  unfolding checksWithin
   checks-kept l =
       stays-then lifted (first (headRules d)) (first (headRules (d ++ t))) (rest d) (rest (d ++ t)) (kept lifted (headRules d) (headRules (d ++ t)) (head-kept l)) λ e.
       let head = passed (headRules d) e in
@@ -118,14 +118,14 @@ module _ (d t : List ℕ) where
 
   -- THE THEOREMS
   pub appended : length (d ++ t) ≤ limit → (codeOf (verdict d) ≡ 11 → ⊥) → (codeOf (verdict d) ≡ 13 → ⊥) → verdict (d ++ t) ≡ verdict d
-  unfolding verdict
+  unfolding verdictWithin
   appended l p q = stays-answer lifted (checks d) (checks (d ++ t)) _ _ (checks-kept l) same (unlifted _ p q)
     where
       same : checks d ≡ pass → accept (count (d ++ t) ∷ end (d ++ t) ∷ []) ≡ accept (count d ∷ end d ∷ [])
       same e = let g = good d e in rw (count-same (omega arith), end-same (omega arith))
 
   pub name-appended : (i : ℕ) → length (d ++ t) ≤ limit → (codeOf (nameAt d i) ≡ 11 → ⊥) → (codeOf (nameAt d i) ≡ 13 → ⊥) → nameAt (d ++ t) i ≡ nameAt d i
-  unfolding nameAt
+  unfolding nameAtWithin
   name-appended i l p q =
       stays-answer lifted (checks d orElse beyond d i) (checks (d ++ t) orElse beyond (d ++ t) i) _ _
       (stays-then lifted (checks d) (checks (d ++ t)) (beyond d i) (beyond (d ++ t) i) (checks-kept l) λ e.

@@ -2,7 +2,7 @@
 use Rattle.rules.proofs.Prelude.{_≡_, List, ℕ, _+_, _≤_, _<_, mul-le-mul-right, arith, Passed, stop, Meant, meant-then, meant-stop, rows-mean, each-means}
 use Rattle.chars.proofs.Laws.{text-le}
 use Rattle.metadata.specs.Limits.{u32Max}
-use Rattle.metadata.specs.Dictionary.{width, count, offset, start, end, region, headRules, regionRules, entryRules, checks}
+use Rattle.metadata.specs.Dictionary.{width, count, offset, start, end, region, headRules, regionRules, entryRules, checks, checksWithin}
 use Rattle.metadata.specs.Meaning.{Dictionary}
 use Rattle.metadata.proofs.Laws.{start-before, end-is, region-length}
 
@@ -21,7 +21,7 @@ abbrev pub Ours : ℕ → ℕ → Type 0
 Ours c p = (10 ≤ c) × (c < 20) × (p < 4294967296)
 
 pub checks-fit : (d : List ℕ) → Meant ((k : ℕ) → k < count d → Passed (entryRules d k)) Ours (checks d)
-unfolding checks entryRules u32Max
+unfolding checksWithin entryRules u32Max
 checks-fit d =
     meant-then _ (rows-mean Ours (headRules d) (omega arith)) λ head.
     meant-then _ (rows-mean Ours (regionRules (region d)) (omega (arith, end-is d, region-length d (omega arith), text-le (region d)))) λ _.

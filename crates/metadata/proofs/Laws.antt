@@ -9,7 +9,7 @@ use Rattle.chars.proofs.Bounds.{text-first}
 use Rattle.utf8.specs.declared.Verdict.{Verdict}
 use Rattle.utf8.specs.declared.Verdict.the-variants.{Whole, Cut, Broken}
 use Rattle.utf8.specs.Utf8.{isCut, verdict}
-use Rattle.metadata.specs.Dictionary.{headRules, regionRules, entryRows, entryRules, checks, sorted, width, count, offset, start, end, region, name, cuts, outside}
+use Rattle.metadata.specs.Dictionary.{headRules, regionRules, entryRows, entryRules, checks, checksWithin, sorted, width, count, offset, start, end, region, name, cuts, outside}
 
 -- PLACES
 
@@ -86,9 +86,9 @@ module _ (d : List ℕ) where
       entry-is k e1 e2 refl e3 e4 ∙ first-pass _ ((whole & range) & (λ s. false-true (sym unsorted ∙ s)) & tt)
 
   pub by-head : {c p : ℕ} → first (headRules d) ≡ stop c p → checks d ≡ stop c p
-  unfolding checks
+  unfolding checksWithin
   by-head e = stops _ e
 
   pub by-region : Passed (headRules d) → {f : Found} → first (regionRules (region d)) ≡ f → checks d ≡ (f orElse first (each (entryRules d) (count d)))
-  unfolding checks
+  unfolding checksWithin
   by-region h e = goes _ (first-pass (headRules d) h) ∙ rw e

@@ -10,7 +10,7 @@ use Rattle.chars.proofs.Laws.{chars}
 use Rattle.chars.proofs.Bounds.{bound}
 use Rattle.names.specs.Search.{Rising}
 use Rattle.names.proofs.Search.{rising-all}
-use Rattle.metadata.specs.Dictionary.{sorted, count, offset, end, region, name, checks, nameAt}
+use Rattle.metadata.specs.Dictionary.{sorted, count, offset, end, region, name, checks, nameAt, nameAtWithin}
 use Rattle.metadata.specs.Meaning.{Cut, Dictionary, Refusal, Named, NoEntry}
 use Rattle.metadata.proofs.Laws.{name-part}
 use Rattle.metadata.proofs.Means.{good, checks-mean}
@@ -54,14 +54,14 @@ module _ (d : List ℕ) (i : ℕ) where
 
   pub by-answer : (P : Answer → Type 0) → ((a e : ℕ) → Named d i a e → P (accept (a ∷ e ∷ []))) → (NoEntry d i → P (refuse 31 0))
       → ((c p : ℕ) → Refusal d c p → P (refuse c p)) → P (nameAt d i)
-  unfolding nameAt
+  unfolding nameAtWithin
   by-answer P is-named is-none is-refused =
       by-meaning P _ name-means (λ g. is-named _ _ (record { accepted = g .0; is-entry = g .1; starts = refl; ends = refl }))
       (λ c p r. ⊎-elim (is-refused c p) (λ f. rw (f .1, f .2) at (is-none (f .0))) r)
 
   -- THE THEOREMS
   pub named : (a e : ℕ) → (nameAt d i ≡ accept (a ∷ e ∷ [])) ↔ Named d i a e
-  unfolding nameAt
+  unfolding nameAtWithin
   named a e = (
     by-answer (λ x. x ≡ accept (a ∷ e ∷ []) → Named d i a e) (λ b f n w. let a-is : b ≡ a = cc in let e-is : f ≡ e = cc in rw (a-is, e-is) at n)
         (λ _ w. let z : _≡_ {A = ℕ} 0 1 = cc in absurd (omega arith)) (λ c p _ w. let z : _≡_ {A = ℕ} 0 1 = cc in absurd (omega arith)),
@@ -69,7 +69,7 @@ module _ (d : List ℕ) (i : ℕ) where
   )
 
   pub no-entry : (nameAt d i ≡ refuse 31 0) ↔ NoEntry d i
-  unfolding nameAt
+  unfolding nameAtWithin
   no-entry = (
     by-answer (λ x. x ≡ refuse 31 0 → NoEntry d i) (λ a e _ w. let z : _≡_ {A = ℕ} 0 1 = cc in absurd (omega arith)) (λ n w. n)
         (λ c p r w. let z : c ≡ 31 = cc in absurd (omega (arith, checks-code d (is-due d r)))),
@@ -77,7 +77,7 @@ module _ (d : List ℕ) (i : ℕ) where
   )
 
   pub refused-is : (c p : ℕ) → (c ≡ 31 → ⊥) → (nameAt d i ≡ refuse c p) ↔ Refusal d c p
-  unfolding nameAt
+  unfolding nameAtWithin
   refused-is c p n = (
     by-answer (λ x. x ≡ refuse c p → Refusal d c p) (λ a e _ w. let z : _≡_ {A = ℕ} 0 1 = cc in absurd (omega arith))
         (λ _ w. let z : c ≡ 31 = cc in absurd (n z)) (λ b r due w. let c-is : b ≡ c = cc in let p-is : r ≡ p = cc in rw (c-is, p-is) at due),

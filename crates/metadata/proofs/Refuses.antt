@@ -6,7 +6,7 @@ use Rattle.chars.specs.Rfc3629.{LongestText, Completed}
 use Rattle.chars.proofs.Truncated.{truncated}
 use Rattle.utf8.specs.Utf8.Judged.{cut, broken}
 use Rattle.names.proofs.Laws.{not-below}
-use Rattle.metadata.specs.Dictionary.{count, end, region, entryRules, checks, verdict}
+use Rattle.metadata.specs.Dictionary.{count, end, region, entryRules, checks, verdict, verdictWithin}
 use Rattle.metadata.specs.Meaning.{Headed, Texted, GoodEntry, Refusal}
 use Rattle.metadata.specs.Meaning.Refusal.{too-long, empty, other-version, count-cut, start-sum, start-short, first-offset, end-sum, end-short, cut-text, no-text, bad-range, not-above}
 use Rattle.metadata.proofs.Laws.{by-head}
@@ -37,7 +37,7 @@ is-due d (not-above {k = k} t q g r s z n) =
 
 -- THE THEOREM
 pub refuses : (d : List ℕ) (c p : ℕ) → (verdict d ≡ refuse c p) ↔ Refusal d c p
-unfolding verdict
+unfolding verdictWithin
 refuses d c p = (λ v. meant-stop (checks-mean d) (turned-down (checks d) (count d) (end d ∷ []) v), λ r. refused _ (is-due d r))
 
 -- WHAT SUPPORT ASKS: of names that are no text, 19 says that there are further bytes with which they are one, and 16 that there are none.

@@ -56,11 +56,11 @@ name d k = part (region d) (offset d k) (offset d (k + 1))
 abbrev pub cuts : List ℕ → ℕ → Test
 cuts r o = o <? length r and 0x80 ≤? getD r o 0 and getD r o 0 ≤? 0xBF
 
--- THE CHECKS, IN ORDER
+-- THE CHECKS, IN ORDER, where `most` is the longest that is read
 
-abbrev pub headRules : List ℕ → List Rule
-headRules d =
-    (limit <? length d ⇒ 10 at 0)
+abbrev pub headRulesWithin : ℕ → List ℕ → List Rule
+headRulesWithin most d =
+    (most <? length d ⇒ 10 at 0)
     ∷ (length d <? 1 ⇒ 11 at 0)
     ∷ (version d ≠? 1 ⇒ 12 at 0)
     ∷ (length d <? 1 + width d ⇒ 13 at 0)
@@ -92,20 +92,35 @@ entryRows sorts r prev from to k =
 unfoldable pub entryRules : List ℕ → ℕ → List Rule
 entryRules d k = entryRows (sorted d) (region d) (offset d (k - 1)) (offset d k) (offset d (k + 1)) k
 
-unfoldable pub checks : List ℕ → Found
-checks d = first (headRules d) orElse first (regionRules (region d)) orElse first (each (entryRules d) (count d))
+unfoldable pub checksWithin : ℕ → List ℕ → Found
+checksWithin most d = first (headRulesWithin most d) orElse first (regionRules (region d)) orElse first (each (entryRules d) (count d))
 
 -- ANSWERS
 
 -- An accepted dictionary gives its entry count and trimmed end
-unfoldable pub verdict : List ℕ → Answer
-verdict d = checks d otherwise accept (count d ∷ end d ∷ [])
+unfoldable pub verdictWithin : ℕ → List ℕ → Answer
+verdictWithin most d = checksWithin most d otherwise accept (count d ∷ end d ∷ [])
 
 -- An entry number gives the start and end of its name, counted from the dictionary's first byte; the dictionary's refusals come before 31
-unfoldable pub nameAt : List ℕ → ℕ → Answer
-nameAt d i =
-    checks d orElse first ((count d ≤? i ⇒ 31 at 0) ∷ [])
+unfoldable pub nameAtWithin : ℕ → List ℕ → ℕ → Answer
+nameAtWithin most d i =
+    checksWithin most d orElse first ((count d ≤? i ⇒ 31 at 0) ∷ [])
     otherwise accept ((start d + offset d i) ∷ (start d + offset d (i + 1)) ∷ [])
+
+-- AT THE LIMIT of Limits.antt: what every call answers by
+abbrev pub headRules : List ℕ → List Rule
+headRules d = headRulesWithin limit d
+
+abbrev pub checks : List ℕ → Found
+checks d = checksWithin limit d
+
+abbrev pub verdict : List ℕ → Answer
+verdict d = verdictWithin limit d
+
+abbrev pub nameAt : List ℕ → ℕ → Answer
+nameAt d i = nameAtWithin limit d i
+
+-- THE EMPTY DICTIONARY
 
 -- The fixed bytes 01 00 00 go to the first three bytes of room, bytes after stay; with 42 nothing is written
 abbrev pub emptyBytes : List ℕ

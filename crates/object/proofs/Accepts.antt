@@ -2,14 +2,14 @@
 -- document 01 hold of both (the record `Layer` of specs/Meaning.antt). Assumes nothing.
 use Rattle.rules.proofs.Prelude.{_≡_, refl, _∙_, _↔_, List, [], _∷_, ℕ, accept, pass, let-through, answered, goes, each-pass}
 use Rattle.metadata.proofs.Accepts as dictionary-accepts
-use Rattle.object.specs.Object.{count, layer, nameRules, offsetRules, checks, verdict}
+use Rattle.object.specs.Object.{count, layer, nameRules, offsetRules, checks, verdict, verdictWithin}
 use Rattle.object.specs.Meaning.{Layer}
 use Rattle.object.proofs.Laws.{by-names}
 use Rattle.object.proofs.Means.{head-passed, good-passed, inside-passed, good}
 
 module _ (d o : List ℕ) (n v e : ℕ) where
   rules-hold : verdict d o ≡ accept (n ∷ v ∷ e ∷ []) → Layer d o n v e
-  unfolding verdict
+  unfolding verdictWithin
   rules-hold a =
       let through = let-through (checks d o) (layer o) a in
       let rules = good d o (through .0) in
@@ -24,7 +24,7 @@ module _ (d o : List ℕ) (n v e : ℕ) where
       ∙ each-pass (offsetRules o) (count o) (λ k p. inside-passed d o k (r .offsets k p))
 
   is-accepted : Layer d o n v e → verdict d o ≡ accept (n ∷ v ∷ e ∷ [])
-  unfolding verdict
+  unfolding verdictWithin
   is-accepted r = rw (r .counts, r .starts, r .ends) (answered _ (all-pass r))
 
 -- THE THEOREM

@@ -16,7 +16,7 @@ use Rattle.object.specs.declared.Layer.{Layer}
 use Rattle.object.specs.declared.Opening.{Opening}
 use Rattle.object.specs.declared.Opening.the-variants as opening
 use Rattle.object.specs.Object.{basicType, offsetWidth, idWidth, countWidth, count, idsStart, id, offsetsStart, offset, start, end, fieldName}
-use Rattle.object.specs.Object.{headRules, nameRules, offsetRules, checks, layer, verdict}
+use Rattle.object.specs.Object.{headRules, nameRules, offsetRules, checks, checksWithin, layer, verdict, verdictWithin}
 use Rattle.object.specs.Answers.{refusalNumber}
 use Rattle.object.specs.Steps.{LayerOf, OpeningOf}
 use Rattle.object.proofs.Laws.{ids-before, offsets-before, id-inside, offset-inside}
@@ -185,7 +185,7 @@ module _ (d t o u : List ℕ) where
   -- ALL CHECKS
   module _ (dictionary-limit : length (d ++ t) ≤ limit) (object-limit : length (o ++ u) ≤ limit) where
     pub checks-kept : Stays lifted (checks d o) (checks (d ++ t) (o ++ u))
-    unfolding checks
+    unfolding checksWithin
     checks-kept =
         stays-then lifted (dictionary.checks d) (dictionary.checks (d ++ t)) (own d o) (own (d ++ t) (o ++ u))
         (stays-more dictionary-appended.lifted lifted (dictionary.checks d) _ (λ c e. neither _ (liftedHere c) e .0) (dictionary-appended.checks-kept d t dictionary-limit)) λ over.
@@ -193,7 +193,7 @@ module _ (d t o u : List ℕ) where
 
     -- THE VERDICT
     pub verdict-appended : Settled (codeOf (verdict d o)) → verdict (d ++ t) (o ++ u) ≡ verdict d o
-    unfolding verdict
+    unfolding verdictWithin
     verdict-appended s =
         stays-answer lifted (checks d o) (checks (d ++ t) (o ++ u)) _ _ checks-kept (λ e. let g = good d o e in layer-same o u (omega arith)) (unlifted _ s)
 

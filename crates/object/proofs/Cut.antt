@@ -4,7 +4,7 @@ use Rattle.rules.proofs.Prelude.{_≡_, List, [], _∷_, ℕ, _<_, arith, take,
 use Rattle.rules.proofs.Prelude.{let-through, passed, cut-stops, stops-first, stops-next, refused-as}
 use Rattle.metadata.specs.Dictionary as dictionary
 use Rattle.metadata.proofs.Cut.{stopped}
-use Rattle.object.specs.Object.{end, headRules, checks, layer, verdict}
+use Rattle.object.specs.Object.{end, headRules, checks, checksWithin, layer, verdict, verdictWithin}
 use Rattle.object.proofs.Laws.{passes}
 use Rattle.object.proofs.Means.{good}
 use Rattle.object.proofs.Appended.{liftedHere, end-same, head-kept}
@@ -12,11 +12,11 @@ use Rattle.object.proofs.Appended.{liftedHere, end-same, head-kept}
 -- THE DICTIONARY CUT: its checks stop, and what comes after does not matter
 module _ (d o : List ℕ) (n e m : ℕ) (accepted : dictionary.verdict d ≡ accept (n ∷ e ∷ [])) (cut : m < e) where
   pub dictionary-stopped : StopsAs 11 13 (checks (take m d) o)
-  unfolding checks
+  unfolding checksWithin
   dictionary-stopped = stops-first (stopped d n e m accepted cut) _
 
   pub dictionary-cut : RefusedAs 11 13 (verdict (take m d) o)
-  unfolding verdict
+  unfolding verdictWithin
   dictionary-cut = refused-as dictionary-stopped _
 
 -- THE OBJECT CUT
@@ -29,7 +29,7 @@ too-short o m p e =
 
 module _ (d o : List ℕ) (n v e m : ℕ) (accepted : verdict d o ≡ accept (n ∷ v ∷ e ∷ [])) (cut : m < e) where
   pub object-stopped : StopsAs 21 23 (checks d (take m o))
-  unfolding verdict checks
+  unfolding verdictWithin checksWithin
   object-stopped =
       let through = let-through (checks d o) (layer o) accepted in
       let e-is : e ≡ end o = cc in
@@ -39,5 +39,5 @@ module _ (d o : List ℕ) (n v e m : ℕ) (accepted : verdict d o ≡ accept (n 
       stops-next (all .over) (stops-first (cut-stops 21 23 (headRules (take m o)) (headRules o) (omega arith) stays (all .header) (too-short o m (omega arith))) _)
 
   pub object-cut : RefusedAs 21 23 (verdict d (take m o))
-  unfolding verdict
+  unfolding verdictWithin
   object-cut = refused-as object-stopped _

@@ -2,7 +2,7 @@
 use Rattle.rules.proofs.Prelude.{_≡_, List, ℕ, _+_, _≤_, _<_, arith, stop, meant-then, meant-map, meant-stop, rows-mean, each-means}
 use Rattle.metadata.specs.Limits.{u32Max}
 use Rattle.metadata.proofs.Fits.{Small, checks-fit}
-use Rattle.object.specs.Object.{count, offset, start, end, headRules, nameRules, offsetRules, checks}
+use Rattle.object.specs.Object.{count, offset, start, end, headRules, nameRules, offsetRules, checks, checksWithin}
 use Rattle.object.specs.Meaning.{Layer}
 use Rattle.object.proofs.Laws.{count-below, start-before, end-is}
 
@@ -11,7 +11,7 @@ abbrev Ours : ℕ → ℕ → Type 0
 Ours c p = (10 ≤ c) × (c < 28) × (p < 4294967296)
 
 pub checks-code : (d o : List ℕ) {c p : ℕ} → checks d o ≡ stop c p → (10 ≤ c) × (c < 28) × (p < 4294967296)
-unfolding checks nameRules offsetRules u32Max
+unfolding checksWithin nameRules offsetRules u32Max
 checks-code d o e =
     meant-stop
     (meant-then _ (meant-map (λ a. a) (λ c p s. omega arith) (checks-fit d)) λ _.

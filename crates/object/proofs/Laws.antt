@@ -6,7 +6,7 @@ use Rattle.names.specs.Search.{Rising}
 use Rattle.names.proofs.Laws.{below-before}
 use Rattle.names.proofs.Search.{rising-all}
 use Rattle.metadata.specs.Dictionary as dictionary
-use Rattle.object.specs.Object.{offsetWidth, idWidth, count, idsStart, id, offsetsStart, offset, start, end, fieldName, headRules, nameRules, offsetRules, checks}
+use Rattle.object.specs.Object.{offsetWidth, idWidth, count, idsStart, id, offsetsStart, offset, start, end, fieldName, headRules, nameRules, offsetRules, checks, checksWithin}
 use Rattle.object.specs.Meaning.{InRegion}
 
 -- PLACES
@@ -61,7 +61,7 @@ pub record Passes (d o : List ℕ) : Type 0 where
 
 module _ (d o : List ℕ) where
   pub passes : checks d o ≡ pass → Passes d o
-  unfolding checks
+  unfolding checksWithin
   passes e =
       let a = both-pass (dictionary.checks d) _ e in
       let b = both-pass (first (headRules o)) _ (a .1) in
@@ -69,16 +69,16 @@ module _ (d o : List ℕ) where
       record { over = a .0; header = b .0; names = c .0; offsets = c .1 }
 
   pub by-dictionary : {c p : ℕ} → dictionary.checks d ≡ stop c p → checks d o ≡ stop c p
-  unfolding checks
+  unfolding checksWithin
   by-dictionary e = stops _ e
 
   module _ (over : dictionary.checks d ≡ pass) where
     pub by-head : {c p : ℕ} → first (headRules o) ≡ stop c p → checks d o ≡ stop c p
-    unfolding checks
+    unfolding checksWithin
     by-head e = goes _ over ∙ stops _ e
 
     pub by-names : Passed (headRules o) → {f : Found} → first (each (nameRules d o) (count o)) ≡ f → checks d o ≡ (f orElse first (each (offsetRules o) (count o)))
-    unfolding checks
+    unfolding checksWithin
     by-names h e = goes _ over ∙ goes _ (first-pass (headRules o) h) ∙ rw e
 
   -- WHAT PASSING SAYS OF THE FIELDS

@@ -8,3 +8,4 @@ pub mod Appended
 pub mod Cut
 pub mod Says
 pub mod Fits
+pub mod Raised

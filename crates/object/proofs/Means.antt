@@ -6,7 +6,7 @@ use Rattle.names.proofs.Laws.{below-before, before-below}
 use Rattle.metadata.specs.Dictionary as dictionary
 use Rattle.metadata.specs.Meaning as dictionary-meaning
 use Rattle.metadata.proofs.Means as dictionary-means
-use Rattle.object.specs.Object.{count, start, end, headRules, nameRules, offsetRules, checks}
+use Rattle.object.specs.Object.{count, start, end, headRules, nameRules, offsetRules, checks, checksWithin}
 use Rattle.object.specs.Meaning.{Sized, Typed, Counted, Placed, Headed, GoodName, Named, InRegion, Layer, Refusal}
 use Rattle.object.specs.Meaning.Refusal.{of-dictionary, too-long, empty, other-type, count-cut, offsets-sum, start-sum, start-short, end-sum, end-short, no-entry, not-above, past-region}
 
@@ -67,7 +67,7 @@ module _ (d o : List ℕ) where
 
   -- ALL CHECKS
   pub checks-mean : Meant (Layer d o (count o) (start o) (end o)) (Refusal d o) (checks d o)
-  unfolding checks
+  unfolding checksWithin
   checks-mean =
       meant-then _ (meant-map (λ over. over) (λ c p. of-dictionary) (dictionary-means.checks-mean d)) λ over.
       meant-then _ (head-means over) λ h. meant-then _ (names-mean h) offsets-mean

@@ -6,7 +6,7 @@ use Rattle.names.proofs.Laws.{not-below}
 use Rattle.metadata.specs.Dictionary as dictionary
 use Rattle.metadata.proofs.Accepts as dictionary-accepts
 use Rattle.metadata.proofs.Refuses as dictionary-refuses
-use Rattle.object.specs.Object.{count, start, end, nameRules, offsetRules, checks, verdict}
+use Rattle.object.specs.Object.{count, start, end, nameRules, offsetRules, checks, verdict, verdictWithin}
 use Rattle.object.specs.Meaning.{Counted, Placed, Headed, GoodName, Refusal}
 use Rattle.object.specs.Meaning.Refusal.{of-dictionary, too-long, empty, other-type, count-cut, offsets-sum, start-sum, start-short, end-sum, end-short, no-entry, not-above, past-region}
 use Rattle.object.proofs.Laws.{by-dictionary, by-head, by-names}
@@ -49,6 +49,6 @@ module _ (d o : List ℕ) where
 
 -- THE THEOREM
 pub refuses : (d o : List ℕ) (c p : ℕ) → (verdict d o ≡ refuse c p) ↔ Refusal d o c p
-unfolding verdict
+unfolding verdictWithin
 refuses d o c p =
     (λ v. meant-stop (checks-mean d o) (turned-down (checks d o) (count o) (start o ∷ end o ∷ []) v), λ r. refused _ (is-due d o r))

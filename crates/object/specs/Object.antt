@@ -61,11 +61,11 @@ end o = start o + offset o (count o)
 unfoldable pub fieldName : List ℕ → List ℕ → ℕ → List ℕ
 fieldName d o k = dictionary.name d (id o k)
 
--- THE CHECKS, IN ORDER
+-- THE CHECKS, IN ORDER, where `most` is the longest that is read
 
-abbrev pub headRules : List ℕ → List Rule
-headRules o =
-    (limit <? length o ⇒ 20 at 0)
+abbrev pub headRulesWithin : ℕ → List ℕ → List Rule
+headRulesWithin most o =
+    (most <? length o ⇒ 20 at 0)
     ∷ (length o <? 1 ⇒ 21 at 0)
     ∷ (basicType o ≠? 2 ⇒ 22 at 0)
     ∷ (length o <? idsStart o ⇒ 23 at 0)
@@ -94,10 +94,10 @@ idRules n o k =
 unfoldable pub offsetRules : List ℕ → ℕ → List Rule
 offsetRules o k = (offset o (count o) <? offset o k ⇒ 27 at k) ∷ []
 
-unfoldable pub checks : List ℕ → List ℕ → Found
-checks d o =
-    dictionary.checks d
-    orElse first (headRules o)
+unfoldable pub checksWithin : ℕ → List ℕ → List ℕ → Found
+checksWithin most d o =
+    dictionary.checksWithin most d
+    orElse first (headRulesWithin most o)
     orElse first (each (nameRules d o) (count o))
     orElse first (each (offsetRules o) (count o))
 
@@ -107,5 +107,15 @@ checks d o =
 abbrev pub layer : List ℕ → Answer
 layer o = accept (count o ∷ start o ∷ end o ∷ [])
 
-unfoldable pub verdict : List ℕ → List ℕ → Answer
-verdict d o = checks d o otherwise layer o
+unfoldable pub verdictWithin : ℕ → List ℕ → List ℕ → Answer
+verdictWithin most d o = checksWithin most d o otherwise layer o
+
+-- AT THE LIMIT, the dictionary's: what every call answers by
+abbrev pub headRules : List ℕ → List Rule
+headRules o = headRulesWithin limit o
+
+abbrev pub checks : List ℕ → List ℕ → Found
+checks d o = checksWithin limit d o
+
+abbrev pub verdict : List ℕ → List ℕ → Answer
+verdict d o = verdictWithin limit d o

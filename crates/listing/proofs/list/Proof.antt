@@ -3,12 +3,12 @@ use Rattle.rules.proofs.Prelude.{sym, _∙_, _*_, _≤_, _<_, arith, needs, len
 use Rattle.metadata.specs.Limits.{u32Max}
 use Rattle.object.specs.Object.{count}
 use Rattle.object.proofs.Laws.{count-below, in-region}
-use Rattle.listing.specs.Words.{listChecks, listed, wordsAfter}
+use Rattle.listing.specs.Words.{listChecksWithin, listedWithin, wordsAfterWithin}
 use Rattle.listing.proofs.list.Statement.{statement}
 use Rattle.listing.proofs.list.Tie as tie
 
 pub list-spec : {M : Type 1} → statement M
-unfolding u32Max listChecks listed wordsAfter
+unfolding u32Max listChecksWithin listedWithin wordsAfterWithin
 list-spec =
     tie.close
     (tie.spec

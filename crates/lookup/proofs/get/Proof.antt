@@ -1,12 +1,12 @@
 -- `lookup::get` meets its contract: the dictionary's refusal, or the lookup over it. Assumes nothing.
 use Rattle.rules.proofs.Prelude.{sym, needs, refused}
 use Rattle.object.proofs.Laws.{by-dictionary}
-use Rattle.lookup.specs.ByName.{lookup}
+use Rattle.lookup.specs.ByName.{lookupWithin}
 use Rattle.lookup.proofs.get.Statement.{statement}
 use Rattle.lookup.proofs.get.Tie as tie
 
 pub get-spec : {M : Type 1} → statement M
-unfolding lookup
+unfolding lookupWithin
 get-spec =
     tie.close
     (tie.spec

@@ -2,12 +2,12 @@
 use Rattle.rules.proofs.Prelude.{sym, _∙_, ap, needs, refused, stops}
 use Rattle.run.specs.Promises.{foundOf}
 use Rattle.run.proofs.Means.{good}
-use Rattle.lookup.specs.Many.{manyChecks, lookups, rowsAfter}
+use Rattle.lookup.specs.Many.{manyChecksWithin, lookupsWithin, rowsAfterWithin}
 use Rattle.lookup.proofs.get_all.Statement.{statement}
 use Rattle.lookup.proofs.get_all.Tie as tie
 
 pub get-all-spec : {M : Type 1} → statement M
-unfolding manyChecks lookups rowsAfter
+unfolding manyChecksWithin lookupsWithin rowsAfterWithin
 get-all-spec =
     tie.close
     (tie.spec

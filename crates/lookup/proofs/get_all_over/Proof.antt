@@ -1,12 +1,12 @@
 -- `lookup::get_all_over` meets its contract: the refusal, or 41, or the rows. Assumes nothing.
 use Rattle.rules.proofs.Prelude.{sym, _∙_, _*_, _≤_, _<_, arith, needs, length, refused, answered, stops, goes, first-at, first-pass}
 use Rattle.run.proofs.Means.{good}
-use Rattle.lookup.specs.Many.{manyChecks, lookups, rowsAfter}
+use Rattle.lookup.specs.Many.{manyChecksWithin, lookupsWithin, rowsAfterWithin}
 use Rattle.lookup.proofs.get_all_over.Statement.{statement}
 use Rattle.lookup.proofs.get_all_over.Tie as tie
 
 pub get-all-over-spec : {M : Type 1} → statement M
-unfolding manyChecks lookups rowsAfter
+unfolding manyChecksWithin lookupsWithin rowsAfterWithin
 get-all-over-spec =
     tie.close
     (tie.spec

@@ -6,7 +6,7 @@ use Rattle.names.proofs.Search.{seek-at}
 use Rattle.object.specs.Object.{count, fieldName}
 use Rattle.object.specs.Steps.{Opened}
 use Rattle.object.proofs.Laws.{in-region, end-is}
-use Rattle.lookup.specs.ByName.{found, lookup}
+use Rattle.lookup.specs.ByName.{found, lookupWithin}
 use Rattle.lookup.specs.Steps.{soughtOf}
 use Rattle.lookup.proofs.FromAbove.{none-above}
 use Rattle.lookup.proofs.get_over.Statement.{statement}
@@ -29,7 +29,7 @@ field c =
     seek-at (fieldName (a .dict .now) (a .object .now)) (a .name .now) _ _ (sought c) .0
 
 pub get-over-spec : {M : Type 1} → statement M
-unfolding lookup
+unfolding lookupWithin
 get-over-spec =
     tie.close
     (tie.spec

@@ -1,13 +1,13 @@
 -- `metadata::check` meets its contract: the numbers of the checked header. Assumes nothing.
 use Rattle.rules.proofs.Prelude.{sym, needs, refused}
-use Rattle.metadata.specs.Dictionary.{verdict}
+use Rattle.metadata.specs.Dictionary.{verdictWithin}
 use Rattle.metadata.proofs.Accepts.{accepts}
 use Rattle.metadata.proofs.Says.{checked-good}
 use Rattle.metadata.proofs.check.Statement.{statement}
 use Rattle.metadata.proofs.check.Tie as tie
 
 pub check-spec : {M : Type 1} → statement M
-unfolding verdict
+unfolding verdictWithin
 check-spec =
     tie.close
     (tie.spec

@@ -1,11 +1,11 @@
 -- `metadata::get` meets its contract: the dictionary's refusal, then 31, then the span. Assumes nothing.
 use Rattle.rules.proofs.Prelude.{sym, _∙_, _≤_, _<_, arith, needs, refused, answered, stops, goes, first-at, first-pass}
-use Rattle.metadata.specs.Dictionary.{count, nameAt}
+use Rattle.metadata.specs.Dictionary.{count, nameAtWithin}
 use Rattle.metadata.proofs.get.Statement.{statement}
 use Rattle.metadata.proofs.get.Tie as tie
 
 pub get-spec : {M : Type 1} → statement M
-unfolding nameAt
+unfolding nameAtWithin
 get-spec =
     tie.close
     (tie.spec

@@ -1,11 +1,11 @@
 -- `object::check` meets its contract: the numbers of the opened layer. Assumes nothing.
 use Rattle.rules.proofs.Prelude.{sym, needs, refused, answered}
-use Rattle.object.specs.Object.{verdict}
+use Rattle.object.specs.Object.{verdictWithin}
 use Rattle.object.proofs.check.Statement.{statement}
 use Rattle.object.proofs.check.Tie as tie
 
 pub check-spec : {M : Type 1} → statement M
-unfolding verdict
+unfolding verdictWithin
 check-spec =
     tie.close
     (tie.spec
