@@ -1,9 +1,10 @@
--- A raise of the limit (document 02, request d): inside the old limit every call of the host returns the code, and leaves the strip and the
--- lent words, that it did. `Left` and `Filled` of the words under the old limit is what a call then promised. Assumes nothing.
+-- A raise of the limit (document 02, request d): under two limits that dictionary and object are within, every call of the host returns the
+-- same code and leaves the same strip and the same lent words. `Left` and `Filled` of the words under a limit are what a call with that limit
+-- promises; the calls' own promises are those under `limit` (`lookup-as-before` has it written out). Assumes nothing.
 use Rattle.rules.proofs.Prelude.{_≡_, List, ℕ, _≤_, arith, length}
 use Rattle.metadata.specs.Limits.{limit}
 use Rattle.metadata.specs.Dictionary as dictionary
-use Rattle.metadata.proofs.Raised.{verdict-alike, name-alike}
+use Rattle.metadata.proofs.Raised.{verdict-alike, name-alike, raised}
 use Rattle.object.specs.Object as object
 use Rattle.object.proofs.Raised as layer
 use Rattle.lookup.specs.ByName.{lookupWithin}
@@ -12,43 +13,48 @@ use Rattle.lookup.proofs.Raised.{lookup-alike, lookups-alike, rows-alike}
 use Rattle.listing.specs.Words.{listedWithin, wordsAfterWithin}
 use Rattle.listing.proofs.Raised.{listed-alike, words-alike}
 use Rattle.words.specs.Shapes.{wordsOf, lookupShape, layerShape, dictionaryShape, nameShape}
-use Rattle.lichenhusk.specs.Promises.{Left, Filled, DictionaryPromise, NamePromise, LayerPromise, LookupPromise, ListPromise, AllPromise}
+use Rattle.lichenhusk.specs.Promises.{Left, Filled, LookupPromise}
 use Rattle.lichenhusk.proofs.Pinned.{strip-pinned, filled-pinned}
 
--- THE DICTIONARY, inside the old limit
-module _ (old : ℕ) (raise : old ≤ limit) (d strip : List ℕ) (inside : length d ≤ old) {was is : ℕ} {left leaves : List ℕ} where
-  pub dictionary-as-before : Left strip (wordsOf dictionaryShape (dictionary.verdictWithin old d)) was left → DictionaryPromise d strip is leaves
-      → (is ≡ was) × (leaves ≡ left)
-  dictionary-as-before w i = strip-pinned strip _ is was leaves left i (rw (verdict-alike old limit d inside (omega arith)) at w)
+module _ (a b : ℕ) (d strip : List ℕ) {code code′ : ℕ} {after after′ : List ℕ} where
+  -- THE DICTIONARY, within both
+  module _ (in-a : length d ≤ a) (in-b : length d ≤ b) where
+    pub dictionary-strip : Left strip (wordsOf dictionaryShape (dictionary.verdictWithin a d)) code after
+        → Left strip (wordsOf dictionaryShape (dictionary.verdictWithin b d)) code′ after′ → (code ≡ code′) × (after ≡ after′)
+    dictionary-strip x y = strip-pinned strip _ code code′ after after′ (rw (verdict-alike a b d in-a in-b) at x) y
 
-  pub name-as-before : (k : ℕ) → Left strip (wordsOf nameShape (dictionary.nameAtWithin old d k)) was left → NamePromise d k strip is leaves
-      → (is ≡ was) × (leaves ≡ left)
-  name-as-before k w i = strip-pinned strip _ is was leaves left i (rw (name-alike old limit d inside (omega arith) k) at w)
+    pub name-strip : (i : ℕ) → Left strip (wordsOf nameShape (dictionary.nameAtWithin a d i)) code after
+        → Left strip (wordsOf nameShape (dictionary.nameAtWithin b d i)) code′ after′ → (code ≡ code′) × (after ≡ after′)
+    name-strip i x y = strip-pinned strip _ code code′ after after′ (rw (name-alike a b d in-a in-b i) at x) y
 
--- AN OBJECT OVER IT, both inside the old limit
-module _ (old : ℕ) (raise : old ≤ limit) (d o strip : List ℕ) (inside : layer.Within old d o) where
-  inside-now : layer.Within limit d o
-  inside-now = layer.within-more old limit d o raise inside
+  -- AN OBJECT OVER IT, both within both
+  module _ (o : List ℕ) (in-a : layer.Within a d o) (in-b : layer.Within b d o) where
+    pub layer-strip : Left strip (wordsOf layerShape (object.verdictWithin a d o)) code after
+        → Left strip (wordsOf layerShape (object.verdictWithin b d o)) code′ after′ → (code ≡ code′) × (after ≡ after′)
+    layer-strip x y = strip-pinned strip _ code code′ after after′ (rw (layer.verdict-alike a b d o in-a in-b) at x) y
 
-  module _ {was is : ℕ} {left leaves : List ℕ} where
-    pub layer-as-before : Left strip (wordsOf layerShape (object.verdictWithin old d o)) was left → LayerPromise d o strip is leaves
-        → (is ≡ was) × (leaves ≡ left)
-    layer-as-before w i = strip-pinned strip _ is was leaves left i (rw (layer.verdict-alike old limit d o inside inside-now) at w)
+    pub lookup-strip : (q : List ℕ) → Left strip (wordsOf lookupShape (lookupWithin a d o q)) code after
+        → Left strip (wordsOf lookupShape (lookupWithin b d o q)) code′ after′ → (code ≡ code′) × (after ≡ after′)
+    lookup-strip q x y = strip-pinned strip _ code code′ after after′ (rw (lookup-alike a b d o in-a in-b q) at x) y
 
-    pub lookup-as-before : (q : List ℕ) → Left strip (wordsOf lookupShape (lookupWithin old d o q)) was left → LookupPromise d o q strip is leaves
-        → (is ≡ was) × (leaves ≡ left)
-    lookup-as-before q w i = strip-pinned strip _ is was leaves left i (rw (lookup-alike old limit d o inside inside-now q) at w)
+    -- with the lent words after the call
+    pub list-strip : (words : List ℕ) {filled filled′ : List ℕ}
+        → Filled strip (wordsOf layerShape (listedWithin a d o words)) words (wordsAfterWithin a d o words) code after filled
+        → Filled strip (wordsOf layerShape (listedWithin b d o words)) words (wordsAfterWithin b d o words) code′ after′ filled′
+        → (code ≡ code′) × (after ≡ after′) × (filled ≡ filled′)
+    list-strip words {filled} {filled′} x y =
+        filled-pinned strip _ words _ code code′ after after′ filled filled′
+        (rw (listed-alike a b d o words in-a in-b, words-alike a b d o words in-a in-b) at x) y
 
-    pub list-as-before : (words : List ℕ) {filled fills : List ℕ}
-        → Filled strip (wordsOf layerShape (listedWithin old d o words)) words (wordsAfterWithin old d o words) was left filled
-        → ListPromise d o words strip is leaves fills → (is ≡ was) × (leaves ≡ left) × (fills ≡ filled)
-    list-as-before words {filled} {fills} w i =
-        filled-pinned strip _ words _ is was leaves left fills filled i
-        (rw (listed-alike old limit d o words inside inside-now, words-alike old limit d o words inside inside-now) at w)
+    pub all-strip : (names ends words : List ℕ) {filled filled′ : List ℕ}
+        → Filled strip (wordsOf layerShape (lookupsWithin a d o names ends words)) words (rowsAfterWithin a d o names ends words) code after filled
+        → Filled strip (wordsOf layerShape (lookupsWithin b d o names ends words)) words (rowsAfterWithin b d o names ends words) code′ after′ filled′
+        → (code ≡ code′) × (after ≡ after′) × (filled ≡ filled′)
+    all-strip names ends words {filled} {filled′} x y =
+        filled-pinned strip _ words _ code code′ after after′ filled filled′
+        (rw (lookups-alike a b d o in-a in-b names ends words, rows-alike a b d o in-a in-b names ends words) at x) y
 
-    pub all-as-before : (names ends words : List ℕ) {filled fills : List ℕ}
-        → Filled strip (wordsOf layerShape (lookupsWithin old d o names ends words)) words (rowsAfterWithin old d o names ends words) was left filled
-        → AllPromise d o names ends words strip is leaves fills → (is ≡ was) × (leaves ≡ left) × (fills ≡ filled)
-    all-as-before names ends words {filled} {fills} w i =
-        filled-pinned strip _ words _ is was leaves left fills filled i
-        (rw (lookups-alike old limit d o inside inside-now names ends words, rows-alike old limit d o inside inside-now names ends words) at w)
+-- THE RAISE: what the host got from a lookup up to 65,536 bytes it gets now
+pub lookup-as-before : (d o q strip : List ℕ) {was is : ℕ} {left leaves : List ℕ} → layer.Within 65536 d o
+    → Left strip (wordsOf lookupShape (lookupWithin 65536 d o q)) was left → LookupPromise d o q strip is leaves → (was ≡ is) × (left ≡ leaves)
+lookup-as-before d o q strip inside = lookup-strip 65536 limit d strip o inside (omega (arith, raised), omega (arith, raised)) q

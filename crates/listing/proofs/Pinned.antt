@@ -20,7 +20,10 @@ listing-back (listing.Refused r) = refusal-back listing.Refused listing.NoRoom r
 listing-back listing.NoRoom = refl
 listing-back (listing.Listed n v e) = refl
 
+pub listing-injective : (v u : Listing) → listingNumbers v ≡ listingNumbers u → v ≡ u
+listing-injective = by-back listingNumbers listingBack listing-back
+
 pub list-pinned : (d o words : List ℕ) (r r′ : Listing) (after after′ : List ℕ) → ListPromise d o words r after → ListPromise d o words r′ after′
     → (r ≡ r′) × (after ≡ after′)
 list-pinned d o words r r′ after after′ a b =
-    (by-back listingNumbers listingBack listing-back r r′ (a .answers ∙ sym (b .answers)), a .leaves ∙ sym (b .leaves))
+    (listing-injective r r′ (a .answers ∙ sym (b .answers)), a .leaves ∙ sym (b .leaves))

@@ -8,7 +8,7 @@ use Rattle.lookup.specs.declared.Lookup.{Lookup}
 use Rattle.lookup.specs.declared.Lookup.the-variants as lookup
 use Rattle.lookup.specs.declared.Lookups.{Lookups}
 use Rattle.lookup.specs.declared.Lookups.the-variants as lookups
-use Rattle.lookup.specs.Answers.{lookupNumbers, lookupsNumbers}
+use Rattle.lookup.specs.Answers.{lookupNumbers, lookupsNumbers, PartOf}
 use Rattle.lookup.specs.Promises.{GetPromise, ChildPromise, GetAllPromise}
 
 lookupBack : Answer → Lookup
@@ -24,13 +24,19 @@ lookup-back (lookup.Refused r) = refusal-back lookup.Refused lookup.Absent r
 lookup-back lookup.Absent = refl
 lookup-back (lookup.Found k i a e) = refl
 
+pub lookup-injective : (v u : Lookup) → lookupNumbers v ≡ lookupNumbers u → v ≡ u
+lookup-injective = by-back lookupNumbers lookupBack lookup-back
+
 pub get-pinned : (d o q : List ℕ) (r r′ : Lookup) → GetPromise d o q r → GetPromise d o q r′ → r ≡ r′
-get-pinned d o q r r′ a b = by-back lookupNumbers lookupBack lookup-back r r′ (a ∙ sym b)
+get-pinned d o q r r′ a b = lookup-injective r r′ (a ∙ sym b)
 
 -- the part's bytes, and the place where it starts
+pub part-pinned : (whole r r′ : RefT (List ℕ)) (from to : ℕ) → PartOf whole r from to → PartOf whole r′ from to → (r .now ≡ r′ .now) × (r .ptr ≡ r′ .ptr)
+part-pinned whole r r′ from to a b = (a .bytes ∙ sym (b .bytes), a .place ∙ sym (b .place))
+
 pub child-pinned : (d : List ℕ) (object : RefT (List ℕ)) (q : List ℕ) (r r′ : RefT (List ℕ)) → ChildPromise d object q r → ChildPromise d object q r′
     → (r .now ≡ r′ .now) × (r .ptr ≡ r′ .ptr)
-child-pinned d object q r r′ a b = (a .bytes ∙ sym (b .bytes), a .place ∙ sym (b .place))
+child-pinned d object q r r′ a b = part-pinned object r r′ _ _ a b
 
 -- many names: the answer, and the words after it
 lookupsBack : Answer → Lookups
@@ -46,7 +52,10 @@ lookups-back (lookups.Refused r) = refusal-back lookups.Refused _ r
 lookups-back lookups.NoRoom = refl
 lookups-back (lookups.Answered n v e) = refl
 
+pub lookups-injective : (v u : Lookups) → lookupsNumbers v ≡ lookupsNumbers u → v ≡ u
+lookups-injective = by-back lookupsNumbers lookupsBack lookups-back
+
 pub get-all-pinned : (d o names ends words : List ℕ) (r r′ : Lookups) (after after′ : List ℕ) → GetAllPromise d o names ends words r after
     → GetAllPromise d o names ends words r′ after′ → (r ≡ r′) × (after ≡ after′)
 get-all-pinned d o names ends words r r′ after after′ a b =
-    (by-back lookupsNumbers lookupsBack lookups-back r r′ (a .answers ∙ sym (b .answers)), a .leaves ∙ sym (b .leaves))
+    (lookups-injective r r′ (a .answers ∙ sym (b .answers)), a .leaves ∙ sym (b .leaves))

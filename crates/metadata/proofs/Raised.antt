@@ -1,12 +1,13 @@
--- What the limit decides (document 02, request d): a dictionary within two limits gets the same answers under both, so that a raise changes
--- nothing inside the old limit, neither what the definitions say nor what the calls return; past a limit the answer is 10. Assumes nothing.
+-- What the limit decides (document 02, request d): a dictionary within two limits gets the same answers under both, by the definitions and by
+-- whatever meets a promise under the one or the other; past a limit the answer is 10. A call's own promise is the one under `limit`: so a raise
+-- changes nothing inside the old limit. Assumes nothing.
 use Rattle.rules.proofs.Prelude.{_≡_, sym, _∙_, List, ℕ, _≤_, _<_, arith, le-ltb, length, refuse, first, stop, first-at, stops, refused}
 use Rattle.metadata.specs.declared.Verdict.{Verdict}
 use Rattle.metadata.specs.declared.Entry.{Entry}
 use Rattle.metadata.specs.Limits.{limit}
 use Rattle.metadata.specs.Dictionary.{headRulesWithin, checksWithin, verdictWithin, nameAtWithin}
 use Rattle.metadata.specs.Answers.{verdictNumbers, entryNumbers}
-use Rattle.metadata.specs.Promises.{CheckPromise, GetPromise}
+use Rattle.metadata.specs.Promises.{CheckPromise}
 use Rattle.metadata.proofs.Pinned.{verdict-injective, entry-injective}
 
 -- TWO LIMITS, and a dictionary within both
@@ -27,18 +28,20 @@ module _ (a b : ℕ) (d : List ℕ) (in-a : length d ≤ a) (in-b : length d ≤
   unfolding nameAtWithin
   name-alike i = rw checks-alike
 
--- A RAISE, and a dictionary inside the old limit: what answered by the old one is what is returned now
-module _ (old : ℕ) (raise : old ≤ limit) (d : List ℕ) (inside : length d ≤ old) where
-  pub check-as-before : (was is : Verdict) → verdictNumbers was ≡ verdictWithin old d → CheckPromise d is → is ≡ was
-  check-as-before was is w i = verdict-injective is was (i ∙ verdict-alike limit old d (omega arith) inside ∙ sym w)
+  -- the answers of the calls
+  pub check-alike : (r q : Verdict) → verdictNumbers r ≡ verdictWithin a d → verdictNumbers q ≡ verdictWithin b d → r ≡ q
+  check-alike r q x y = verdict-injective r q (x ∙ verdict-alike ∙ sym y)
 
-  pub get-as-before : (i : ℕ) (was is : Entry) → entryNumbers was ≡ nameAtWithin old d i → GetPromise d i is → is ≡ was
-  get-as-before i was is w p = entry-injective is was (p ∙ name-alike limit old d (omega arith) inside i ∙ sym w)
+  pub get-alike : (i : ℕ) (r q : Entry) → entryNumbers r ≡ nameAtWithin a d i → entryNumbers q ≡ nameAtWithin b d i → r ≡ q
+  get-alike i r q x y = entry-injective r q (x ∙ name-alike i ∙ sym y)
 
--- the base read up to 65,536 bytes
+-- THE RAISE: the base read up to 65,536 bytes
 pub raised : 65536 ≤ limit
 unfolding limit
 raised = omega arith
+
+pub check-as-before : (d : List ℕ) → length d ≤ 65536 → (was is : Verdict) → verdictNumbers was ≡ verdictWithin 65536 d → CheckPromise d is → was ≡ is
+check-as-before d inside = check-alike 65536 limit d inside (omega (arith, raised))
 
 -- PAST A LIMIT
 module _ (most : ℕ) (d : List ℕ) (past : most < length d) where

@@ -1,20 +1,15 @@
--- What the limit decides (document 02, request d): an object over a dictionary, both within two limits, gets the same answer under both, so
--- that a raise changes nothing inside the old limit; past a limit the answer is 20, where the dictionary is not past it. Assumes nothing.
-use Rattle.rules.proofs.Prelude.{_≡_, sym, _∙_, List, ℕ, _≤_, _<_, arith, le-ltb, length, refuse, first, pass, stop, first-at, stops, goes, refused}
-use Rattle.metadata.specs.Limits.{limit}
+-- What the limit decides (document 02, request d): an object over a dictionary, both within two limits, gets the same answer under both; past a
+-- limit the answer is 20, where the dictionary is accepted. `check`'s own promise is the one under `limit`. Assumes nothing.
+use Rattle.rules.proofs.Prelude.{_≡_, sym, _∙_, List, ℕ, _≤_, _<_, le-ltb, length, refuse, first, pass, stop, first-at, stops, goes, refused}
 use Rattle.metadata.specs.Dictionary as dictionary
 use Rattle.metadata.proofs.Raised as dictionary-raised
 use Rattle.object.specs.declared.Verdict.{Verdict}
 use Rattle.object.specs.Object.{headRulesWithin, checksWithin, verdictWithin}
 use Rattle.object.specs.Answers.{verdictNumbers}
-use Rattle.object.specs.Promises.{CheckPromise}
 use Rattle.object.proofs.Pinned.{verdict-injective}
 
 abbrev pub Within : ℕ → List ℕ → List ℕ → Type 0
 Within most d o = (length d ≤ most) × (length o ≤ most)
-
-pub within-more : (a b : ℕ) (d o : List ℕ) → a ≤ b → Within a d o → Within b d o
-within-more a b d o l in-a = (omega arith, omega arith)
 
 -- TWO LIMITS, and a dictionary and an object within both
 module _ (a b : ℕ) (d o : List ℕ) (in-a : Within a d o) (in-b : Within b d o) where
@@ -30,11 +25,9 @@ module _ (a b : ℕ) (d o : List ℕ) (in-a : Within a d o) (in-b : Within b d o
   unfolding verdictWithin
   verdict-alike = rw checks-alike
 
--- A RAISE, and both inside the old limit: what answered by the old one is what is returned now
-module _ (old : ℕ) (raise : old ≤ limit) (d o : List ℕ) (inside : Within old d o) where
-  pub check-as-before : (was is : Verdict) → verdictNumbers was ≡ verdictWithin old d o → CheckPromise d o is → is ≡ was
-  check-as-before was is w i =
-      verdict-injective is was (i ∙ verdict-alike limit old d o (within-more old limit d o raise inside) inside ∙ sym w)
+  -- the answer of the call
+  pub check-alike : (r q : Verdict) → verdictNumbers r ≡ verdictWithin a d o → verdictNumbers q ≡ verdictWithin b d o → r ≡ q
+  check-alike r q x y = verdict-injective r q (x ∙ verdict-alike ∙ sym y)
 
 -- PAST A LIMIT
 module _ (most : ℕ) (d o : List ℕ) (over : dictionary.checksWithin most d ≡ pass) (past : most < length o) where
