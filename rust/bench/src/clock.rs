@@ -2,27 +2,27 @@
 
 use std::time::Instant;
 
-/// Samples of each side of a row.
+/// Samples of each side of a row, where nothing else is said.
 pub const SAMPLES: usize = 101;
 
-/// About how long one sample takes.
+/// About how long one sample takes, where one call does not take longer.
 const SAMPLE_MICROS: u128 = 500;
 
 /// Something whose time is taken, for a turn of a row.
 pub type Side<'r> = &'r dyn Fn(usize);
 
-/// Nanoseconds of a call, for each side: the median of its samples.
-pub fn medians<const N: usize>(sides: [Side; N]) -> [f64; N] {
+/// Nanoseconds of a call, for each side: the median of so many samples.
+pub fn medians<const N: usize>(samples: usize, sides: [Side; N]) -> [f64; N] {
     let turns = sides.map(turns);
-    let mut samples = [const { Vec::new() }; N];
-    for round in 0..SAMPLES {
+    let mut taken = [const { Vec::new() }; N];
+    for round in 0..samples {
         // Each side is the first of a round as often as another.
         for step in 0..N {
             let side = (round + step) % N;
-            samples[side].push(sample(sides[side], turns[side], round));
+            taken[side].push(sample(sides[side], turns[side], round));
         }
     }
-    samples.map(median)
+    taken.map(median)
 }
 
 /// How many turns make a sample long enough.

@@ -1,6 +1,6 @@
 //! The id of a field that was found: by one call, by two, and by the Rust's two searches.
 
-use crate::clock::medians;
+use crate::clock::{SAMPLES, medians};
 use crate::rows::{Row, labelled};
 use crate::sides::name;
 use lichenhusk::{Found, WORDS_PER_FIELD};
@@ -25,11 +25,14 @@ pub fn measured(row: &Row) -> [f64; 3] {
         let id = once(row, turn);
         assert_eq!([twice(turn), searched(row, turn)], [id; 2], "{}", row.label);
     }
-    medians([
-        &|turn| _ = black_box(once(row, turn)),
-        &|turn| _ = black_box(twice(turn)),
-        &|turn| _ = black_box(searched(row, turn)),
-    ])
+    medians(
+        SAMPLES,
+        [
+            &|turn| _ = black_box(once(row, turn)),
+            &|turn| _ = black_box(twice(turn)),
+            &|turn| _ = black_box(searched(row, turn)),
+        ],
+    )
 }
 
 fn lookup(row: &Row, turn: usize) -> Found {

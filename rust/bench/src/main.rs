@@ -1,18 +1,29 @@
-//! The clock: check and lookup together, the found field's id, UTF-8 alone, and many names of one
-//! message, ours and the Rust's, in one process.
+//! The clock: check and lookup together, the found field's id, UTF-8 alone, many names of one
+//! message, and larger messages, ours and the Rust's, in one process.
 //!
-//! `cargo run --profile measured -p bench`
+//! `cargo run --profile measured -p bench`, and a table's word for that table alone
 
 mod clock;
 mod ids;
+mod large;
 mod many;
 mod rows;
 mod sides;
 mod texts;
 
 use clock::SAMPLES;
-use std::fs;
-use std::process::Command;
+use large::{FEW_SAMPLES, Line, MANY_BYTES, SIZES};
+use std::process::{Command, exit};
+use std::{env, fs};
+
+/// The tables, in their order, and the word for each.
+const TABLES: [(&str, fn()); 5] = [
+    ("lookup", lookups),
+    ("ids", ids_too),
+    ("text", texts_alone),
+    ("many", many_names),
+    ("large", large_messages),
+];
 
 /// What the columns are, to be printed above them.
 const LEGEND: &str = "\
@@ -47,13 +58,45 @@ Many names of one message, all of them there; each turn asks for others.
   singly    lichenhusk::lookup of each name, which checks dictionary and layer each time
 The names have twelve letters where nothing else is said.";
 
+/// The same for the fifth table.
+const LARGE_LEGEND: &str = "\
+Larger messages: microseconds of a call.
+  ours      lichenhusk::lookup, or lichenhusk::lookup_all_into where 64 names are asked for at once
+  Rust      VariantMetadata::try_new and VariantObject::try_new, then get of each name
+  /B        nanoseconds for a byte of dictionary and object together
+  children, R-c and shallow are those of the first table
+Names are twelve letters at random, or the time stamps of a year's readings (2026-01-01T00:15), of
+which neighbours have most bytes in common. An unsorted dictionary has its names in no order; an
+object's fields are always in the order of their names. Numbers take two bytes each in the smallest
+messages and three in the others, but for the ids of 35,040 fields, which take two.";
+
+/// The same for what follows it.
+const GROWTH_LEGEND: &str = "\
+Growth: nanoseconds a byte in a message of about 64 KiB, and a byte's time in the larger ones as a
+multiple of that. Where growth is linear it is 1.";
+
 fn main() {
+    let word = env::args().nth(1);
+    let is_asked = |table: &str| word.as_ref().is_none_or(|word| word == table);
+    let asked: Vec<fn()> = TABLES
+        .into_iter()
+        .filter_map(|(table, print)| is_asked(table).then_some(print))
+        .collect();
+    if asked.is_empty() {
+        let words = TABLES.map(|(table, _)| table).join(", ");
+        eprintln!("no table of that word; there are {words}");
+        exit(2);
+    }
     println!("{}", machine());
-    println!("recipe: cargo run --profile measured -p bench; {SAMPLES} samples of each side");
-    lookups();
-    ids_too();
-    texts_alone();
-    many_names();
+    println!(
+        "recipe: cargo run --profile measured -p bench; {SAMPLES} samples of each side, \
+         {FEW_SAMPLES} above {} MiB",
+        MANY_BYTES >> 20
+    );
+    for print in asked {
+        println!();
+        print();
+    }
     println!("\nload after: {}", load());
 }
 
@@ -75,7 +118,7 @@ fn lookups() {
         "ratio"
     );
     for row in rows::rows() {
-        let [ours, whole, shallow, children] = sides::measured(&row);
+        let [ours, whole, shallow, children] = sides::measured(&row, SAMPLES);
         let less = whole - children;
         println!(
             "{:<55}{:>7}{:>7}{ours:>11.1}{whole:>11.1}{:>7.2}{children:>11.1}{less:>11.1}{:>7.2}{shallow:>11.1}{:>7.2}",
@@ -91,7 +134,7 @@ fn lookups() {
 
 /// The table of ids.
 fn ids_too() {
-    println!("\n{IDS_LEGEND}\n");
+    println!("{IDS_LEGEND}\n");
     println!(
         "{:<55}{:>7}{:>7}{:>11}{:>11}{:>7}{:>11}{:>7}",
         "row", "dict", "object", "ours", "twice", "ratio", "Rust", "ratio"
@@ -111,7 +154,7 @@ fn ids_too() {
 
 /// The table of UTF-8 alone.
 fn texts_alone() {
-    println!("\n{TEXT_LEGEND}\n");
+    println!("{TEXT_LEGEND}\n");
     println!(
         "{:<55}{:>7}{:>18}{:>11}{:>7}",
         "row", "dict", "ours", "Rust", "ratio"
@@ -129,7 +172,7 @@ fn texts_alone() {
 
 /// The table of many names.
 fn many_names() {
-    println!("\n{MANY_LEGEND}\n");
+    println!("{MANY_LEGEND}\n");
     println!(
         "{:<55}{:>7}{:>7}{:>11}{:>11}{:>7}{:>11}{:>7}",
         "row", "dict", "object", "ours", "Rust", "ratio", "singly", "ratio"
@@ -146,6 +189,81 @@ fn many_names() {
                 ours / singly,
             );
         }
+    }
+}
+
+/// The table of larger messages, and how their times grow.
+fn large_messages() {
+    println!("{LARGE_LEGEND}\n");
+    println!(
+        "{:<55}{:>9}{:>9}{:>11}{:>11}{:>7}{:>8}{:>8}{:>11}{:>11}{:>7}{:>11}{:>7}",
+        "row",
+        "dict",
+        "object",
+        "ours",
+        "Rust",
+        "ratio",
+        "ours/B",
+        "Rust/B",
+        "children",
+        "R-c",
+        "ratio",
+        "shallow",
+        "ratio"
+    );
+    let mut grown = Vec::new();
+    for series in large::series() {
+        let lines: Vec<Line> = series.lines().inspect(print_line).collect();
+        grown.push((series.label, lines));
+    }
+    growth(&grown);
+}
+
+/// A line of that table.
+fn print_line(line: &Line) {
+    let micros = |nanos: f64| nanos / 1000.0;
+    let [our_byte, their_byte] = line.a_byte();
+    print!(
+        "{:<55}{:>9}{:>9}{:>11.2}{:>11.2}{:>7.2}{our_byte:>8.3}{their_byte:>8.3}",
+        line.label,
+        line.dict,
+        line.object,
+        micros(line.ours),
+        micros(line.theirs),
+        line.ours / line.theirs,
+    );
+    if let Some([shallow, children]) = line.parts {
+        let less = line.theirs - children;
+        print!(
+            "{:>11.2}{:>11.2}{:>7.2}{:>11.2}{:>7.2}",
+            micros(children),
+            micros(less),
+            line.ours / less,
+            micros(shallow),
+            line.ours / shallow,
+        );
+    }
+    println!();
+}
+
+/// How a byte's time grows in each series.
+fn growth(grown: &[(String, Vec<Line>)]) {
+    println!("\n{GROWTH_LEGEND}\n");
+    let [_, larger, largest] = SIZES;
+    println!(
+        "{:<55}{:>9}{larger:>9}{largest:>9}{:>9}{larger:>9}{largest:>9}",
+        "series", "ours", "Rust"
+    );
+    for (label, lines) in grown {
+        print!("{label:<55}");
+        for side in 0..2 {
+            let first = lines[0].a_byte()[side];
+            print!("{first:>9.3}");
+            for line in &lines[1..] {
+                print!("{:>9.2}", line.a_byte()[side] / first);
+            }
+        }
+        println!();
     }
 }
 

@@ -16,9 +16,28 @@ pub struct Row {
     pub names: Vec<String>,
 }
 
+/// About so many bytes are read to see that both sides find the same names.
+const COMPARED_BYTES: usize = 1 << 28;
+
+/// At least so many names are compared, however many bytes that takes.
+const COMPARED_NAMES: usize = 64;
+
+impl Row {
+    /// Bytes of the dictionary and of the object.
+    pub fn bytes(&self) -> usize {
+        self.dict.len() + self.object.len()
+    }
+
+    /// How many of the names are compared: all, but few over a large message, which is checked
+    /// from the start for each of them.
+    pub fn compared(&self) -> usize {
+        (COMPARED_BYTES / self.bytes()).clamp(COMPARED_NAMES, self.names.len())
+    }
+}
+
 /// How names are made.
 #[derive(Clone, Copy, Debug)]
-enum Names {
+pub enum Names {
     /// Twelve letters at random.
     Letters,
     /// Three to ten letters at random.
@@ -31,31 +50,33 @@ enum Names {
     InTurn,
     /// Four characters of three bytes at random.
     ThreeByte,
+    /// Time stamps of a year's readings, so many minutes apart.
+    Stamps(usize),
 }
 
 /// Which entries the object has as fields.
 #[derive(Clone, Copy, Debug, PartialEq)]
-enum Fields {
+pub enum Fields {
     All,
     Middle,
 }
 
 /// Whether the names asked for are there.
 #[derive(Clone, Copy, Debug, PartialEq)]
-enum Asked {
+pub enum Asked {
     Present,
     Absent,
 }
 
 /// What a row is but for the order of its dictionary: label, count of names, and the choices above.
-type Kind = (&'static str, usize, Names, Fields, Asked);
+pub type Kind = (&'static str, usize, Names, Fields, Asked);
 
 /// Every line of the table.
-pub fn rows() -> Vec<Row> {
+pub fn rows() -> impl Iterator<Item = Row> {
     use Asked::*;
     use Fields::*;
     use Names::*;
-    each_order(&[
+    each_order([
         ("1 field", 1, Letters, All, Present),
         ("16 fields", 16, Letters, All, Present),
         ("255 fields", 255, Letters, All, Present),
@@ -100,38 +121,31 @@ pub fn labelled(labels: &[&str]) -> impl Iterator<Item = Row> {
         let label = row.label.rsplit_once(", ").map(|(label, _)| label);
         label.is_some_and(|label| labels.contains(&label))
     };
-    rows().into_iter().filter(is_taken)
+    rows().filter(is_taken)
 }
 
 /// Messages with names of several lengths, which are not in the table.
-pub fn mixed() -> Vec<Row> {
+pub fn mixed() -> impl Iterator<Item = Row> {
     let kind = |label, count| (label, count, Names::Mixed, Fields::All, Asked::Present);
-    each_order(&[
+    each_order([
         kind("16 fields, 3 to 10 letters", 16),
         kind("255 fields, 3 to 10 letters", 255),
     ])
 }
 
 /// Rows of kinds, sorted and unsorted.
-fn each_order(kinds: &[Kind]) -> Vec<Row> {
-    let mut all = Vec::new();
-    for &(label, count, names, fields, asked) in kinds {
-        for sorted in [true, false] {
-            let label = format!("{label}, {}", if sorted { "sorted" } else { "unsorted" });
-            all.push(row(label, count, names, sorted, fields, asked));
-        }
-    }
-    all
+fn each_order<const N: usize>(kinds: [Kind; N]) -> impl Iterator<Item = Row> {
+    let both = |kind| [true, false].map(|sorted| row(kind, sorted));
+    kinds.into_iter().flat_map(both)
 }
 
-fn row(
-    label: String,
-    count: usize,
-    names: Names,
-    sorted: bool,
-    fields: Fields,
-    asked: Asked,
-) -> Row {
+/// What a label says of a dictionary's order.
+pub fn order(sorted: bool) -> &'static str {
+    if sorted { "sorted" } else { "unsorted" }
+}
+
+/// The row of a kind, with the dictionary in order or not.
+pub fn row((label, count, names, fields, asked): Kind, sorted: bool) -> Row {
     let mut random = Random::seeded(count as u64);
     let names = increasing(&mut random, count, names);
     let mut entries: Vec<usize> = (0..count).collect(); // the entry's name, by its rank
@@ -142,15 +156,23 @@ fn row(
         Fields::All => 0..count,
         Fields::Middle => count / 2..count / 2 + 1,
     };
-    let id_of = |rank: usize| entries.iter().position(|&entry| entry == rank);
-    let ids: Vec<usize> = chosen.clone().filter_map(id_of).collect();
+    let ids = &inverse(&entries)[chosen.clone()];
     let children: Vec<Vec<u8>> = chosen.clone().map(|rank| vec![0x0C, rank as u8]).collect();
     Row {
-        label,
+        label: format!("{label}, {}", order(sorted)),
         dict: dictionary_of(&names, &entries, sorted),
-        object: plain_object(&ids, &children),
+        object: plain_object(ids, &children),
         names: asked_for(&mut random, &names[chosen], asked),
     }
+}
+
+/// The entry of each rank, by the rank of each entry.
+fn inverse(entries: &[usize]) -> Vec<usize> {
+    let mut ids = vec![0; entries.len()];
+    for (entry, &rank) in entries.iter().enumerate() {
+        ids[rank] = entry;
+    }
+    ids
 }
 
 fn increasing(random: &mut Random, count: usize, names: Names) -> Vec<String> {
@@ -163,6 +185,7 @@ fn increasing(random: &mut Random, count: usize, names: Names) -> Vec<String> {
             Names::TwoByte => (0..6).map(|_| two_byte(random)).collect(),
             Names::InTurn => (0..4).map(|_| in_turn(random)).collect(),
             Names::ThreeByte => (0..4).map(|_| three_byte(random)).collect(),
+            Names::Stamps(apart) => stamp(all.len() * apart),
         });
     }
     all.into_iter().collect()
@@ -186,6 +209,22 @@ fn in_turn(random: &mut Random) -> String {
 /// One of the signs from 4E00 to 9FFF.
 pub fn three_byte(random: &mut Random) -> char {
     char::from_u32(0x4E00 + random.below(0x5200) as u32).unwrap_or('水')
+}
+
+/// Days of each month of a year that is no leap year.
+const DAYS: [usize; 12] = [31, 28, 31, 30, 31, 30, 31, 31, 30, 31, 30, 31];
+
+/// A minute of the year 2026, as a meter writes it: 2026-01-01T00:15.
+fn stamp(minute: usize) -> String {
+    let (hour, minute) = (minute / 60, minute % 60);
+    let (mut day, hour) = (hour / 24, hour % 24);
+    let mut month = 0;
+    while DAYS[month] <= day {
+        day -= DAYS[month];
+        month += 1;
+    }
+    let (month, day) = (month + 1, day + 1);
+    format!("2026-{month:02}-{day:02}T{hour:02}:{minute:02}")
 }
 
 fn dictionary_of(names: &[String], entries: &[usize], sorted: bool) -> Vec<u8> {

@@ -2,6 +2,7 @@
 
 use crate::clock::medians;
 use crate::rows::Row;
+use differential::reading::ObjectParts;
 use parquet_variant::{Variant, VariantMetadata, VariantObject};
 use std::hint::black_box;
 
@@ -14,34 +15,44 @@ struct Prepared<'r> {
 
 /// A row's figures, in the order of the sides: ours, the Rust's, the Rust's shallow one, and its
 /// checks of the children.
-pub fn measured(row: &Row) -> [f64; 4] {
+pub fn measured(row: &Row, samples: usize) -> [f64; 4] {
     let prepared = prepared(row);
-    medians([
-        &|turn| ours(&prepared, turn),
-        &|turn| whole(&prepared, turn),
-        &|turn| shallow(&prepared, turn),
-        &|_| children(&prepared),
-    ])
+    medians(
+        samples,
+        [
+            &|turn| ours(&prepared, turn),
+            &|turn| whole(&prepared, turn),
+            &|turn| shallow(&prepared, turn),
+            &|_| children(&prepared),
+        ],
+    )
 }
 
-/// Prepares a row, after a look that both sides answer alike: each name that is asked for is
-/// found by both, and in the same bytes, or by none.
+/// Prepares a row, after a look that both sides answer alike: each name that is compared is found
+/// by both, and in the same bytes, or by none.
 fn prepared(row: &Row) -> Prepared<'_> {
     let metadata = VariantMetadata::try_new(&row.dict).expect("a good dictionary");
     let object = VariantObject::try_new(metadata.clone(), &row.object).expect("a good object");
-    for name in &row.names {
+    for name in &row.names[..row.compared()] {
         let child = lichenhusk::child(&row.dict, &row.object, name.as_bytes());
         let ours = child.expect("good on our side too").map(|child| {
             Variant::try_new_with_metadata(metadata.clone(), child).expect("a good child")
         });
         assert_eq!(ours, object.get(name), "{}: {name}", row.label);
     }
-    let fields = lichenhusk::list(&row.dict, &row.object).expect("good on our side too");
     Prepared {
         row,
         metadata,
-        starts: fields.iter().map(|field| field.start).collect(),
+        starts: starts(&row.object).expect("a good object"),
     }
+}
+
+/// Where each child starts, by the object's header: our listing looks at all offsets for each
+/// field, which is too long for many fields.
+fn starts(object: &[u8]) -> Option<Vec<usize>> {
+    let ObjectParts { ids, offsets, .. } = ObjectParts::of(object)?;
+    let start = |field| Some(offsets.end() + offsets.number(object, field)?);
+    (0..ids.count).map(start).collect()
 }
 
 /// The name that is asked for in a turn.

@@ -1,6 +1,6 @@
 //! UTF-8 alone: a dictionary of one long name, against the library's check of that name's bytes.
 
-use crate::clock::medians;
+use crate::clock::{SAMPLES, medians};
 use crate::rows::{letter, three_byte, two_byte};
 use differential::encode::{DictionaryShape, dictionary};
 use differential::random::Random;
@@ -48,14 +48,17 @@ pub fn measured(text: &Text) -> [f64; 2] {
         Refusal::DictionaryTextCut { prefix }
     });
     assert_eq!(ours, library, "{}", text.label);
-    medians([
-        &|_| {
-            let _ = black_box(lichenhusk::dictionary(black_box(&text.dict)));
-        },
-        &|_| {
-            let _ = black_box(from_utf8(black_box(&text.name)));
-        },
-    ])
+    medians(
+        SAMPLES,
+        [
+            &|_| {
+                let _ = black_box(lichenhusk::dictionary(black_box(&text.dict)));
+            },
+            &|_| {
+                let _ = black_box(from_utf8(black_box(&text.name)));
+            },
+        ],
+    )
 }
 
 /// A name and the dictionary that has it alone.
