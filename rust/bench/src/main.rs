@@ -1,7 +1,8 @@
 //! The clock: check and lookup together, the found field's id, UTF-8 alone, many names of one
 //! message, and larger messages, ours and the Rust's, in one process.
 //!
-//! `cargo run --profile measured -p bench`, and a table's word for that table alone
+//! `cargo run --profile measured -p bench`; with `-- large`, or another word of `TABLES`, that
+//! table alone
 
 mod clock;
 mod ids;
@@ -76,15 +77,9 @@ Growth: nanoseconds a byte in a message of about 64 KiB, and a byte's time in th
 multiple of that. Where growth is linear it is 1.";
 
 fn main() {
-    let word = env::args().nth(1);
-    let is_asked = |table: &str| word.as_ref().is_none_or(|word| word == table);
-    let asked: Vec<fn()> = TABLES
-        .into_iter()
-        .filter_map(|(table, print)| is_asked(table).then_some(print))
-        .collect();
-    if asked.is_empty() {
-        let words = TABLES.map(|(table, _)| table).join(", ");
-        eprintln!("no table of that word; there are {words}");
+    let tables = tables(env::args().nth(1).as_deref());
+    if tables.is_empty() {
+        eprintln!("the tables are {}", TABLES.map(|(word, _)| word).join(", "));
         exit(2);
     }
     println!("{}", machine());
@@ -93,11 +88,20 @@ fn main() {
          {FEW_SAMPLES} above {} MiB",
         MANY_BYTES >> 20
     );
-    for print in asked {
+    for table in tables {
         println!();
-        print();
+        table();
     }
     println!("\nload after: {}", load());
+}
+
+/// The table of a word, or all of them.
+fn tables(asked: Option<&str>) -> Vec<fn()> {
+    TABLES
+        .into_iter()
+        .filter(|&(word, _)| asked.is_none_or(|asked| asked == word))
+        .map(|(_, table)| table)
+        .collect()
 }
 
 /// The table of check and lookup together.
