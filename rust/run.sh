@@ -7,7 +7,7 @@
 #   run.sh short      the comparison's own tests, and a comparison that takes less than a minute
 #   run.sh long       millions of inputs
 #   run.sh replay N   answers of the Rust's, N lines at most, on standard output
-#   run.sh bench      the clock
+#   run.sh bench      the clock: all tables, or the one of a word
 #
 # Each takes the archive that is there: make archive makes it. What cannot be run for want of cargo,
 # of cc and pkg-config or of the Rust's source is skipped, and said so in one line.
@@ -99,7 +99,7 @@ case $task in
     has_cargo
     has_source
     quietly build --profile measured -p bench
-    target/measured/bench
+    target/measured/bench "$@"
     ;;
   *)
     sed -n '2,13p' run.sh | cut -c3- >&2

@@ -6,7 +6,8 @@ use crate::many;
 use crate::rows::Asked::Present;
 use crate::rows::Fields::{All, Middle};
 use crate::rows::Names::{Letters, Stamps};
-use crate::rows::{Kind, Names, Row, order, row};
+use crate::rows::Order::{self, Halves, Shuffled, Sorted};
+use crate::rows::{Kind, Names, Row, row};
 use crate::sides;
 
 /// About how many bytes the messages of a series have, dictionary and object together.
@@ -64,7 +65,7 @@ enum Call {
 pub struct Series {
     pub label: String,
     sizes: Sizes,
-    sorted: bool,
+    order: Order,
     call: Call,
 }
 
@@ -79,22 +80,28 @@ pub struct Line {
     pub parts: Option<[f64; 2]>,
 }
 
-/// Every series, its dictionaries sorted and then unsorted.
+/// The orders of a dictionary. In two halves, the names of neighbouring fields are neighbours there
+/// too, so that reading them in the order of the fields does not go to and fro; where only one field
+/// is there, or the same messages were measured before, that tells nothing.
+const TWO_ORDERS: &[Order] = &[Sorted, Shuffled];
+const THREE_ORDERS: &[Order] = &[Sorted, Shuffled, Halves];
+
+/// Every series, in each order of its dictionary.
 pub fn series() -> impl Iterator<Item = Series> {
-    let each_order = |(label, sizes, call)| {
-        [true, false].map(|sorted| Series {
-            label: format!("{label}, {}", order(sorted)),
+    let each_order = |(label, sizes, call, orders): (&'static str, _, _, &'static [Order])| {
+        orders.iter().map(move |&order| Series {
+            label: format!("{label}, {}", order.label()),
             sizes,
-            sorted,
+            order,
             call,
         })
     };
     [
-        ("names, 1 field", NAMES, Call::Lookup),
-        ("fields, time stamps", STAMPED, Call::Lookup),
-        ("fields, letters", LETTERED, Call::Lookup),
-        ("64 at once, time stamps", STAMPED, Call::AtOnce),
-        ("64 at once, letters", LETTERED, Call::AtOnce),
+        ("names, 1 field", NAMES, Call::Lookup, TWO_ORDERS),
+        ("fields, time stamps", STAMPED, Call::Lookup, THREE_ORDERS),
+        ("fields, letters", LETTERED, Call::Lookup, THREE_ORDERS),
+        ("64 at once, time stamps", STAMPED, Call::AtOnce, TWO_ORDERS),
+        ("64 at once, letters", LETTERED, Call::AtOnce, TWO_ORDERS),
     ]
     .into_iter()
     .flat_map(each_order)
@@ -107,7 +114,7 @@ impl Series {
             Call::Lookup => lookup,
             Call::AtOnce => at_once,
         };
-        let line = move |&kind| measured(row(kind, self.sorted));
+        let line = move |&kind| measured(row(kind, self.order));
         self.sizes.iter().map(line)
     }
 }

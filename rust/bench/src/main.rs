@@ -67,9 +67,10 @@ Larger messages: microseconds of a call.
   /B        nanoseconds for a byte of dictionary and object together
   children, R-c and shallow are those of the first table
 Names are twelve letters at random, or the time stamps of a year's readings (2026-01-01T00:15), of
-which neighbours have most bytes in common. An unsorted dictionary has its names in no order; an
-object's fields are always in the order of their names. Numbers take two bytes each in the smallest
-messages and three in the others, but for the ids of 35,040 fields, which take two.";
+which neighbours have most bytes in common. An unsorted dictionary has its names in no order, or the
+second half before the first; an object's fields are always in the order of their names. Numbers
+take two bytes each in the smallest messages and three in the others, but for the ids of 35,040
+fields, which take two.";
 
 /// The same for what follows it.
 const GROWTH_LEGEND: &str = "\

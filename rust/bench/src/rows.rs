@@ -68,6 +68,27 @@ pub enum Asked {
     Absent,
 }
 
+/// In which order a dictionary has its names.
+#[derive(Clone, Copy, Debug, PartialEq)]
+pub enum Order {
+    Sorted,
+    /// In no order.
+    Shuffled,
+    /// The second half before the first, each in order.
+    Halves,
+}
+
+impl Order {
+    /// What a label says of it.
+    pub fn label(self) -> &'static str {
+        match self {
+            Order::Sorted => "sorted",
+            Order::Shuffled => "unsorted",
+            Order::Halves => "unsorted, in two halves",
+        }
+    }
+}
+
 /// What a row is but for the order of its dictionary: label, count of names, and the choices above.
 pub type Kind = (&'static str, usize, Names, Fields, Asked);
 
@@ -135,22 +156,19 @@ pub fn mixed() -> impl Iterator<Item = Row> {
 
 /// Rows of kinds, sorted and unsorted.
 fn each_order<const N: usize>(kinds: [Kind; N]) -> impl Iterator<Item = Row> {
-    let both = |kind| [true, false].map(|sorted| row(kind, sorted));
+    let both = |kind| [Order::Sorted, Order::Shuffled].map(|order| row(kind, order));
     kinds.into_iter().flat_map(both)
 }
 
-/// What a label says of a dictionary's order.
-pub fn order(sorted: bool) -> &'static str {
-    if sorted { "sorted" } else { "unsorted" }
-}
-
-/// The row of a kind, with the dictionary in order or not.
-pub fn row((label, count, names, fields, asked): Kind, sorted: bool) -> Row {
+/// The row of a kind, with the dictionary in an order.
+pub fn row((label, count, names, fields, asked): Kind, order: Order) -> Row {
     let mut random = Random::seeded(count as u64);
     let names = increasing(&mut random, count, names);
     let mut entries: Vec<usize> = (0..count).collect(); // the entry's name, by its rank
-    if !sorted {
-        random.shuffle(&mut entries);
+    match order {
+        Order::Sorted => {}
+        Order::Shuffled => random.shuffle(&mut entries),
+        Order::Halves => entries.rotate_left(count / 2),
     }
     let chosen = match fields {
         Fields::All => 0..count,
@@ -159,8 +177,8 @@ pub fn row((label, count, names, fields, asked): Kind, sorted: bool) -> Row {
     let ids = &inverse(&entries)[chosen.clone()];
     let children: Vec<Vec<u8>> = chosen.clone().map(|rank| vec![0x0C, rank as u8]).collect();
     Row {
-        label: format!("{label}, {}", order(sorted)),
-        dict: dictionary_of(&names, &entries, sorted),
+        label: format!("{label}, {}", order.label()),
+        dict: dictionary_of(&names, &entries, order == Order::Sorted),
         object: plain_object(ids, &children),
         names: asked_for(&mut random, &names[chosen], asked),
     }
