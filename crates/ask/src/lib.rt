@@ -9,6 +9,9 @@ ghost use Rattle.words.specs.Shapes.{stripBytes};
 ghost use Rattle.lichenhusk.specs.Strip.{lookupWords, allWords, layerWords, listWords, verdictWords, nameAtWords};
 ghost use Rattle.lichenhusk.specs.Host.{wordsIn};
 ghost use Rattle.ask.specs.Numbers.{numbersOf};
+
+pub mod room;
+
 use libc::STDOUT_FILENO;
 use lichenhusk::STRIP;
 

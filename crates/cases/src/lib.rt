@@ -7,6 +7,7 @@
 ghost use Prim.Native.Nat.{_≤_};
 ghost use lib.ListN.{length};
 use ask::Answer;
+use ask::room::use_library;
 use text::Numeral;
 use text::hex;
 use text::number;
@@ -34,11 +35,12 @@ const NO_ROOM: usize = 8;
 
 const MANY_ENDS: usize = 9;
 
-fn reason(n: usize) -> bool {
+// `room` is how many bytes a word may spell.
+fn reason(n: usize, room: usize) -> bool {
     match n {
         1 => io::write_all(1, b"an odd number of hex digits"),
         2 => io::write_all(1, b"a character that is no hex digit"),
-        3 => io::write_all(1, b"more bytes than there is room for"),
+        3 => word_too_long(room),
         4 => io::write_all(
             1,
             b"the first word is none of dictionary, name, layer, lookup, list, all",
@@ -49,6 +51,11 @@ fn reason(n: usize) -> bool {
         8 => io::write_all(1, b"more room than there is"),
         _ => io::write_all(1, b"more ends than there is room for"),
     }
+}
+
+fn word_too_long(room: usize) -> bool {
+    io::write_all(1, b"a word is");
+    use_library(room, b" bytes")
 }
 
 // An operand that was read: how long it is, where the text goes on, and the fault or 0.
@@ -384,8 +391,9 @@ fn first(words: &[u32], n: usize) -> &[u32] {
     &words[0..n]
 }
 
-// An answer as a line has it: six numbers, and where words were filled ` :` and these; or `? ` and why the line is no case.
-pub fn write(outcome: Outcome, words: &[u32]) {
+// An answer as a line has it: six numbers, and where words were filled ` :` and these; or `? ` and why the line is no case. `room` is how
+// many bytes a word of it may spell.
+pub fn write(outcome: Outcome, words: &[u32], room: usize) {
     match outcome {
         Outcome::Answered(a) => {
             ask::write(a);
@@ -397,7 +405,7 @@ pub fn write(outcome: Outcome, words: &[u32]) {
         }
         Outcome::NoCase(n) => {
             io::write_all(1, b"? ");
-            reason(n);
+            reason(n, room);
         }
     }
 }

@@ -1,8 +1,14 @@
 // Questions from standard input, a line each, and their answers to standard output.
 ghost use Prim.Native.Nat.{_≤_};
 ghost use lib.ListN.{length};
+use ask::room::ROOM;
+use ask::room::use_library;
 use libc::STDIN_FILENO;
-use libc::STDOUT_FILENO;
+use sentences::files;
+use sentences::tell;
+
+// The characters of the longest line that is answered.
+const LINE: usize = 300_000;
 
 // What was read and not yet taken: the bytes of the chunk from `at` to `have`.
 struct Source {
@@ -13,6 +19,7 @@ struct Source {
 enum Next {
     Byte { b: u8, source: Source },
     End,
+    Failed,
 }
 
 fn take(chunk: &mut [u8], s: Source) -> Next {
@@ -28,7 +35,11 @@ fn take(chunk: &mut [u8], s: Source) -> Next {
             };
         }
     }
-    let have = io::count(libc::read(STDIN_FILENO, chunk), chunk);
+    let got = libc::read(STDIN_FILENO, chunk);
+    if got < 0 {
+        return Next::Failed;
+    }
+    let have = io::count(got, chunk);
     if have == 0 {
         return Next::End;
     }
@@ -38,7 +49,8 @@ fn take(chunk: &mut [u8], s: Source) -> Next {
     }
 }
 
-// A line: its first `len` bytes are in the room lent. It is long where there were more, and the last where the input ended.
+// A line: its first `len` bytes are in the room lent. It is long where there were more, and the last where the input ended. Of a line that
+// could not be read to its end there is nothing.
 struct Read {
     len: usize,
     long: bool,
@@ -65,6 +77,17 @@ fn longer(long: bool, before: usize, after: usize) -> bool {
     long
 }
 
+fn ended(len: usize, long: bool, last: bool, source: Source) -> Read
+    ensures { λ r. ⌜ r .len ≤ len ⌝ }
+{
+    Read {
+        len,
+        long,
+        last,
+        source,
+    }
+}
+
 fn read_line(chunk: &mut [u8], line: &mut [u8], from: Source) -> Read
     ensures { λ r. ⌜ r .len ≤ length (now (line .exit)) ⌝ }
 {
@@ -76,23 +99,17 @@ fn read_line(chunk: &mut [u8], line: &mut [u8], from: Source) -> Read
         turns -= 1;
         let n = take(chunk, source);
         match n {
+            Next::Failed => {
+                files::input_failed();
+                return ended(0, false, true, source);
+            }
             Next::End => {
-                return Read {
-                    len,
-                    long,
-                    last: true,
-                    source,
-                };
+                return ended(len, long, true, source);
             }
             Next::Byte { b, source: s } => {
                 source = s;
                 if b == b'\n' {
-                    return Read {
-                        len,
-                        long,
-                        last: false,
-                        source,
-                    };
+                    return ended(len, long, false, source);
                 }
                 let before = len;
                 len = put(line, len, b);
@@ -100,32 +117,26 @@ fn read_line(chunk: &mut [u8], line: &mut [u8], from: Source) -> Read
             }
         }
     }
-    Read {
-        len,
-        long,
-        last: true,
-        source,
-    }
+    ended(len, long, true, source)
 }
 
 fn answer(line: &[u8]) {
-    let mut dict = [0u8; 65537];
-    let mut object = [0u8; 65537];
-    let mut query = [0u8; 65537];
+    let mut dict = [0u8; ROOM];
+    let mut object = [0u8; ROOM];
+    let mut query = [0u8; ROOM];
     let mut ends = [0u32; 16384];
-    let mut room = [0u32; 65536];
+    let mut room = [0u32; ROOM];
     let words: &mut [u32] = &mut room;
     let outcome = cases::answer(line, &mut dict, &mut object, &mut query, &mut ends, words);
-    cases::write(outcome, words);
-    io::write_all(STDOUT_FILENO, b"\n");
+    cases::write(outcome, words, ROOM);
+    tell(b"\n");
 }
 
 fn answer_line(line: &[u8], long: bool) {
     if long {
-        io::write_all(
-            STDOUT_FILENO,
-            b"? the line is longer than 300000 characters\n",
-        );
+        tell(b"? the line is");
+        use_library(LINE, b" characters");
+        tell(b"\n");
     } else {
         answer(line);
     }
@@ -134,7 +145,7 @@ fn answer_line(line: &[u8], long: bool) {
 pub fn run() {
     let mut chunk_room = io::large_buffer();
     let chunk: &mut [u8] = &mut chunk_room;
-    let mut line_room = [0u8; 300_000];
+    let mut line_room = [0u8; LINE];
     let line: &mut [u8] = &mut line_room;
     let mut source = Source { at: 0, have: 0 };
     let mut turns = u64::MAX;

@@ -5,7 +5,12 @@ ghost use lib.ListN.{length};
 
 mod batch;
 
+use ask::room::ROOM;
+use ask::room::longer_than;
+use ask::room::use_library;
+use ask::say;
 use sentences::files;
+use sentences::files::LENT;
 use sentences::tell;
 use text::Numeral;
 
@@ -41,7 +46,7 @@ fn usage() {
 }
 
 fn check(path: &[u8]) {
-    let mut room = [0u8; 65537];
+    let mut room = [0u8; LENT];
     let dict = files::load(path, &mut room);
     if !dict.good {
         return;
@@ -51,7 +56,7 @@ fn check(path: &[u8]) {
 }
 
 fn name_of(path: &[u8], entry: usize) {
-    let mut room = [0u8; 65537];
+    let mut room = [0u8; LENT];
     let dict = files::load(path, &mut room);
     if !dict.good {
         return;
@@ -95,12 +100,12 @@ fn answer(wish: Wish, dict: &[u8], object: &[u8], names: &[u8], ends: &[u32]) {
 }
 
 fn with_both(wish: Wish, path: &[u8], object_path: &[u8], names: &[u8], ends: &[u32]) {
-    let mut dict_room = [0u8; 65537];
+    let mut dict_room = [0u8; LENT];
     let dict = files::load(path, &mut dict_room);
     if !dict.good {
         return;
     }
-    let mut object_room = [0u8; 65537];
+    let mut object_room = [0u8; LENT];
     let object = files::load(object_path, &mut object_room);
     if !object.good {
         return;
@@ -147,10 +152,12 @@ fn too_long(count: usize) -> Names
     ensures { λ r. ⌜ (r .len ≤ 0) × (r .count ≤ 0) ⌝ }
 {
     if count == 5 {
-        tell(b"NAME is longer than 65536 bytes\n");
+        tell(b"NAME is");
     } else {
-        tell(b"the names are longer than 65536 bytes together\n");
+        tell(b"the names together are");
     }
+    use_library(ROOM, b" bytes");
+    tell(b"\n");
     Names {
         good: false,
         len: 0,
@@ -160,7 +167,7 @@ fn too_long(count: usize) -> Names
 
 // The arguments after DICT and OBJECT, as far as there is room for their ends.
 fn gather(count: usize, run: &mut [u8], ends: &mut [u32]) -> Names
-    requires { ⌜ length (now run) ≤ 65536 ⌝ }
+    requires { do ⌜ length (now run) ≤ (← ⟦ROOM⟧) ⌝ }
     ensures { λ r. ⌜ (r .len ≤ length (now (run .exit))) × (r .count ≤ length (now (ends .exit))) ⌝ }
 {
     let mut at: usize = 0;
@@ -190,7 +197,7 @@ fn gather(count: usize, run: &mut [u8], ends: &mut [u32]) -> Names
 
 // There is room for one end more than are taken, so that too many are seen.
 fn find_arguments(count: usize, path: &[u8], object_path: &[u8]) {
-    let mut run = io::large_buffer();
+    let mut run = [0u8; ROOM];
     let mut ends = [0u32; 65];
     let names = gather(count, &mut run, &mut ends);
     if !names.good {
@@ -201,22 +208,52 @@ fn find_arguments(count: usize, path: &[u8], object_path: &[u8]) {
     find(path, object_path, &run[0..n], &ends[0..k]);
 }
 
-// The command of the program's own arguments.
+// A word of the command: the first `len` bytes of the room lent, none where it is missing.
+struct Word {
+    good: bool,
+    len: usize,
+}
+
+// One that is longer than the room is not taken: cut short it would name another file.
+fn argument(i: usize, out: &mut [u8]) -> Word
+    ensures { λ r. ⌜ r .len ≤ length (now (out .exit)) ⌝ }
+{
+    let len = os::arg(i, out);
+    if os::errno() == libc::ENAMETOOLONG {
+        say(b"argument ", i);
+        tell(b" is");
+        longer_than(out.len(), b" bytes");
+        tell(b"\n");
+        return Word {
+            good: false,
+            len: 0,
+        };
+    }
+    Word { good: true, len }
+}
+
+// The command of the program's own arguments. The first three have room for the longest path.
 pub fn run() {
     let count = os::arg_count();
     if count < 2 {
         show();
         return;
     }
-    let mut verb = io::buffer();
-    let mut one = io::buffer();
-    let mut two = io::buffer();
-    let v = os::arg(1, &mut verb);
-    let a = os::arg(2, &mut one);
-    let b = os::arg(3, &mut two);
-    if 5 <= count && check::same(&verb[..v], b"find") {
-        find_arguments(count, &one[..a], &two[..b]);
+    let mut verb_room = io::buffer();
+    let mut one_room = io::buffer();
+    let mut two_room = io::buffer();
+    let verb = argument(1, &mut verb_room);
+    let one = argument(2, &mut one_room);
+    let two = argument(3, &mut two_room);
+    if !(verb.good && one.good && two.good) {
+        return;
+    }
+    let v = verb.len;
+    let a = one.len;
+    let b = two.len;
+    if 5 <= count && check::same(&verb_room[0..v], b"find") {
+        find_arguments(count, &one_room[0..a], &two_room[0..b]);
     } else {
-        act(count, &verb[..v], &one[..a], &two[..b]);
+        act(count, &verb_room[0..v], &one_room[0..a], &two_room[0..b]);
     }
 }

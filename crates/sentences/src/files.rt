@@ -1,7 +1,12 @@
-// A file's bytes, or why it cannot be read.
+// A file's bytes, or why it cannot be read. What cannot be read to its end is not read.
 ghost use Prim.Native.Nat.{_≤_};
 ghost use lib.ListN.{length};
 use crate::tell;
+use ask::room::ROOM;
+use ask::room::use_library;
+
+// What a file is read into: a byte more than a program has room for, so that a longer file is seen.
+pub const LENT: usize = ROOM + 1;
 
 pub struct File {
     pub good: bool,
@@ -32,39 +37,65 @@ fn why(error: i32) {
 }
 
 fn cannot(path: &[u8]) {
-    let error = os::errno();
     tell(b"cannot read ");
     crate::quoted(path);
     tell(b": ");
+}
+
+fn failed(path: &[u8]) {
+    let error = os::errno();
+    cannot(path);
     why(error);
 }
 
-// As much of the file as there is room for.
+// The same of standard input, on a line of its answers.
+pub fn input_failed() {
+    let error = os::errno();
+    tell(b"? cannot read standard input: ");
+    why(error);
+}
+
+fn too_long(path: &[u8]) {
+    cannot(path);
+    tell(b"it is");
+    use_library(ROOM, b" bytes");
+    tell(b"\n");
+}
+
+// As much of the file as there is room for. A read that fails, the first or a later one, leaves nothing of it.
 fn read(fd: i32, path: &[u8], out: &mut [u8]) -> File
     ensures { λ r. ⌜ r .len ≤ length (now (out .exit)) ⌝ }
 {
-    let got = libc::read(fd, out);
-    if got < 0 {
-        cannot(path);
-        return bad();
+    let mut len: usize = 0;
+    while len < out.len() {
+        let got = libc::read(fd, &mut out[len..]);
+        if got < 0 {
+            failed(path);
+            return bad();
+        }
+        let n = io::count(got, &out[len..]);
+        if n == 0 {
+            return File { good: true, len };
+        }
+        len += n;
     }
-    let n = io::count(got, out);
-    let m = io::read_full(fd, &mut out[n..]);
-    File {
-        good: true,
-        len: n + m,
-    }
+    File { good: true, len }
 }
 
-pub fn load(path: &[u8], out: &mut [u8]) -> File
+pub fn load(path: &[u8], out: &mut [u8; LENT]) -> File
+    ensures { λ r. do ⌜ r .len ≤ (← ⟦ROOM⟧ .entry) ⌝ }
     ensures { λ r. ⌜ r .len ≤ length (now (out .exit)) ⌝ }
 {
     let fd = os::open_read(path);
     if fd < 0 {
-        cannot(path);
+        failed(path);
         return bad();
     }
     let file = read(fd, path, out);
     libc::close(fd);
+    if ROOM < file.len {
+        too_long(path);
+        return bad();
+    }
     file
 }

@@ -6,6 +6,7 @@ ghost use Rattle.object.specs.Steps.{Over};
 pub mod files;
 
 use ask::Answer;
+use ask::room::ROOM;
 use ask::say;
 use ask::wide;
 use libc::STDOUT_FILENO;
@@ -35,9 +36,16 @@ pub fn quoted(name: &[u8]) {
     tell(b"\"");
 }
 
+// That one of the two is longer than any that the library reads.
+fn above_limit(what: &[u8]) -> bool {
+    tell(what);
+    say(b" is longer than ", metadata::LIMIT);
+    tell(b" bytes")
+}
+
 fn meaning_of_dictionary(code: usize) -> bool {
     match code {
-        10 => tell(b"the dictionary is longer than 65536 bytes"),
+        10 => above_limit(b"the dictionary"),
         11 => tell(b"the dictionary is empty"),
         12 => tell(b"the dictionary's version is not 1"),
         13 => tell(b"the dictionary is cut short"),
@@ -53,7 +61,7 @@ fn meaning_of_dictionary(code: usize) -> bool {
 
 fn meaning_of_object(code: usize) -> bool {
     match code {
-        20 => tell(b"the object is longer than 65536 bytes"),
+        20 => above_limit(b"the object"),
         21 => tell(b"the object is empty"),
         22 => tell(b"the basic type is not 2, that of an object"),
         23 => tell(b"the object is cut short"),
@@ -284,9 +292,10 @@ fn fields(dict: &[u8], words: &[u32]) {
     }
 }
 
-// Room for the most fields that 65,536 bytes can hold.
+// Three words a field. An object of more than 256 fields has three bytes or more for each, so that as many words as a program has bytes
+// are enough.
 pub fn list(dict: &[u8], object: &[u8]) {
-    let mut room = [0u32; 65536];
+    let mut room = [0u32; ROOM];
     let words: &mut [u32] = &mut room;
     let a = ask::list(dict, object, words);
     if a.code != 0 {
@@ -294,7 +303,7 @@ pub fn list(dict: &[u8], object: &[u8]) {
         return;
     }
     accepted(a);
-    if 21845 < a.number {
+    if words.len() / 3 < a.number {
         return;
     }
     let n = 3 * a.number;

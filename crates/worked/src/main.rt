@@ -12,8 +12,11 @@ use cases::Outcome;
 use cases::tally::Tally;
 use text::find;
 
+// As many bytes as a word of the table has, and some.
+const ROOM: usize = 64;
+
 fn judge(t: Tally, want: &[u8], outcome: Outcome, words: &[u32]) -> Tally {
-    cases::write(outcome, words);
+    cases::write(outcome, words, ROOM);
     if cases::expected::is(want, outcome, words) {
         return report::good(t);
     }
@@ -23,9 +26,9 @@ fn judge(t: Tally, want: &[u8], outcome: Outcome, words: &[u32]) -> Tally {
 }
 
 fn answer(t: Tally, question: &[u8], want: &[u8]) -> Tally {
-    let mut dict = [0u8; 64];
-    let mut object = [0u8; 64];
-    let mut query = [0u8; 64];
+    let mut dict = [0u8; ROOM];
+    let mut object = [0u8; ROOM];
+    let mut query = [0u8; ROOM];
     let mut ends = [0u32; 16];
     let mut room = [0u32; 20];
     let words: &mut [u32] = &mut room;

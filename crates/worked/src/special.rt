@@ -114,7 +114,8 @@ fn words_that_stay(t: Tally) -> Tally {
     )
 }
 
-// 65,536 bytes are read, and one more is refused.
+// Document 01's two lengths, 65,536 bytes and one more: both are read. For what 10 and 20 refuse no program has room: the host's Rust tests
+// have those cases.
 fn long_dictionary(t: Tally) -> Tally {
     let mut long = [0u8; 65537];
     long[0] = 1;
@@ -122,7 +123,7 @@ fn long_dictionary(t: Tally) -> Tally {
         t,
         b"01 00 00 in 65537 bytes",
         ask::dictionary(&long).code,
-        10,
+        0,
     );
     let n: usize = 65536;
     number(
@@ -140,7 +141,7 @@ fn long_object(t: Tally) -> Tally {
         t,
         b"02 00 00 in 65537 bytes",
         ask::layer(b"\x01\x00\x00", &long).code,
-        20,
+        0,
     );
     let n: usize = 65536;
     number(

@@ -22,17 +22,26 @@ read-line-spec =
     (λ c. search needs)  -- sub-turns
     (λ c κs. search needs)  -- take-requires
     (λ c. search needs)  -- enum-told
+    (λ c κs. search needs)  -- input-failed-requires
+    (λ c κs. search needs)  -- ended-requires
     (λ c. search needs)  -- same-length
     (λ c. search needs)  -- same-length-2
     (λ c. search needs)  -- returns
-    (λ c. search needs)  -- enum-known-n
+    (λ c. search needs)  -- enum-told-2
+    (λ c κs. search needs)  -- ended-requires-2
     (λ c. search needs)  -- same-length-3
     (λ c. search needs)  -- same-length-4
     (λ c. search needs)  -- returns-2
+    (λ c. search needs)  -- enum-known-n
+    (λ c κs. search needs)  -- ended-requires-3
+    (λ c. search needs)  -- same-length-5
+    (λ c. search needs)  -- same-length-6
+    (λ c. search needs)  -- returns-3
     (λ c κs. search needs)  -- put-requires
     (λ c κs. search needs)  -- longer-requires
     (λ c. search needs)  -- loop-less
     (λ c. search needs)  -- loop-again
-    (λ c. search needs)  -- same-length-5
-    (λ c. search needs)  -- same-length-6
-    (λ c. search needs))  -- returns-3
+    (λ c κs. search needs)  -- ended-requires-4
+    (λ c. search needs)  -- same-length-7
+    (λ c. search needs)  -- same-length-8
+    (λ c. search needs))  -- returns-4
