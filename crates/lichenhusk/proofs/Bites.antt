@@ -21,11 +21,11 @@ use Rattle.lichenhusk.specs.Worked.Told.{leaves}
 use Rattle.lichenhusk.proofs.Worked.{worked}
 
 -- row k of the table of worked cases, on both sides
-abbrev at : ℕ → List Told → Told
+abbrev pub at : ℕ → List Told → Told
 at k table = getD table k (leaves [])
 
 -- two dictionaries of one first byte: of no entries, and of two
-abbrev none : List ℕ
+abbrev pub none : List ℕ
 none = 0x01 ∷ 0x00 ∷ 0x00 ∷ []
 
 abbrev two : List ℕ
