@@ -158,7 +158,8 @@ pub fn layer(dict: &[u8], object: &[u8], strip: &mut [u8]) -> u32 {
     }
 }
 
-/// Lists the fields, three words each; the strip is the layer's.
+/// Lists the fields, three words each; the strip is the layer's. The time grows with the square of
+/// the number of fields: see [`list_into`](crate::list_into).
 pub fn list(dict: &[u8], object: &[u8], words: &mut [u32], strip: &mut [u8]) -> u32 {
     // SAFETY: as the head of this module says.
     unsafe {

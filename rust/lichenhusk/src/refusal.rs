@@ -1,6 +1,6 @@
 //! Why bytes were refused.
 
-use crate::STRIP_BYTES;
+use crate::{LIMIT, STRIP_BYTES};
 use std::error::Error;
 use std::fmt;
 
@@ -29,7 +29,7 @@ use std::fmt;
 /// ```
 #[derive(Clone, Copy, Debug, PartialEq, Eq, Hash)]
 pub enum Refusal {
-    /// 10: the dictionary is longer than [`LIMIT`](crate::LIMIT).
+    /// 10: the dictionary is longer than [`LIMIT`].
     DictionaryTooLong,
     /// 11: the dictionary has no bytes.
     DictionaryEmpty,
@@ -62,7 +62,7 @@ pub enum Refusal {
         /// How many bytes, from the first name's first byte, are well formed.
         prefix: u32,
     },
-    /// 20: the object is longer than [`LIMIT`](crate::LIMIT).
+    /// 20: the object is longer than [`LIMIT`].
     ObjectTooLong,
     /// 21: the object has no bytes.
     ObjectEmpty,
@@ -201,7 +201,7 @@ impl fmt::Display for Refusal {
     fn fmt(&self, to: &mut fmt::Formatter<'_>) -> fmt::Result {
         write!(to, "refused {} at {}: ", self.number(), self.place())?;
         match self {
-            DictionaryTooLong => write!(to, "the dictionary is longer than 65536 bytes"),
+            DictionaryTooLong => write!(to, "the dictionary is longer than {LIMIT} bytes"),
             DictionaryEmpty => write!(to, "the dictionary has no bytes"),
             DictionaryVersion => write!(to, "the dictionary's version is not 1"),
             DictionaryShort => write!(
@@ -229,7 +229,7 @@ impl fmt::Display for Refusal {
                 to,
                 "the dictionary's names end inside a character, after their first {prefix} bytes: ask for the rest"
             ),
-            ObjectTooLong => write!(to, "the object is longer than 65536 bytes"),
+            ObjectTooLong => write!(to, "the object is longer than {LIMIT} bytes"),
             ObjectEmpty => write!(to, "the object has no bytes"),
             ObjectType => write!(to, "the value is not an object: its basic type is not 2"),
             ObjectShort => write!(

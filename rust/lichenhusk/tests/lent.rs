@@ -3,7 +3,7 @@
 mod common;
 
 use common::{D, P, hex};
-use lichenhusk::{STRIP_BYTES, Strip, raw};
+use lichenhusk::{LIMIT, STRIP_BYTES, Strip, raw};
 
 /// What a strip holds before a call, so that a byte that was not written shows.
 const BEFORE: u8 = 0xEE;
@@ -224,5 +224,5 @@ fn queries_of_any_bytes() {
     assert_eq!(field(b"a"), Ok(Some(1)));
     assert_eq!(field(b"a\0"), Ok(None));
     assert_eq!(field(b"\xFF"), Ok(None));
-    assert_eq!(field(&[b'a'; 70_000]), Ok(None));
+    assert_eq!(field(&vec![b'a'; LIMIT + 1]), Ok(None));
 }

@@ -17,7 +17,8 @@ pub fn hex(text: &str) -> Vec<u8> {
 
 /// Bytes with zeros after them, up to a length.
 pub fn padded(text: &str, length: usize) -> Vec<u8> {
-    let mut bytes = hex(text);
-    bytes.resize(length, 0);
+    let head = hex(text);
+    let mut bytes = vec![0; length];
+    bytes[..head.len()].copy_from_slice(&head);
     bytes
 }
