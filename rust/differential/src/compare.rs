@@ -16,6 +16,13 @@
 //! are those of its header; a listing's spans are those of its starts; a lookup's id is the
 //! listing's; words after a listing, and all words under a refusal, stay. Of many names at once,
 //! [`many`](crate::many) says the rest.
+//!
+//! Of larger inputs less is asked by single questions, each of which is a whole check: see
+//! [`asked`]. An object of more than [`LISTED`] fields is not listed, since the time of that grows
+//! with the square of their number; instead the names of all fields are looked for in one call,
+//! which must find each of them in its order, with the field's own id, and its start is what is
+//! compared where the listing's is otherwise. (In too little room a listing is asked for all the
+//! same: it is refused before it begins.)
 
 use crate::many::Many;
 use crate::original::{
@@ -25,13 +32,23 @@ use crate::original::{
 use crate::ours::{Reader, absent, accepted, found, refused};
 use crate::reading::{DictionaryParts, ObjectParts};
 use crate::tally::Tally;
-use crate::{Input, hex};
+use crate::{Input, LARGE, shown};
 use lichenhusk::{Field, LIMIT, OK, Strip, WORDS_PER_FIELD};
 use parquet_variant::{Variant, VariantMetadata, VariantObject};
 use std::fmt::{self, Debug};
 
-/// How many entries, or fields, of one input are asked for by name or number; of more, some.
-const ASKED: usize = 24;
+/// How many entries, or fields, of an input of so many bytes are asked for by name or number; of
+/// more, some.
+fn asked(size: usize) -> usize {
+    match size {
+        _ if size <= LARGE => 24,
+        _ if size <= 16 * LARGE => 4,
+        _ => 1,
+    }
+}
+
+/// The most fields of an object that is listed.
+const LISTED: usize = 8_192;
 
 /// What a lent word holds before a call.
 pub const UNWRITTEN: u32 = 0xEEEE_EEEE;
@@ -62,9 +79,32 @@ pub type Compared<T = ()> = Result<T, Disagreement>;
 pub fn differ<T>(asked: &str, ours: impl Debug, theirs: impl Debug) -> Compared<T> {
     Err(Disagreement {
         asked: asked.to_string(),
-        ours: format!("{ours:?}"),
-        theirs: format!("{theirs:?}"),
+        ours: brief(ours),
+        theirs: brief(theirs),
     })
+}
+
+/// The most letters that are said of an answer: a child may have millions of bytes.
+const MOST_LETTERS: usize = 1000;
+
+/// An answer in words, as far as that is of use.
+fn brief(answer: impl Debug) -> String {
+    struct Brief(String);
+    impl fmt::Write for Brief {
+        fn write_str(&mut self, text: &str) -> fmt::Result {
+            let room = MOST_LETTERS.saturating_sub(self.0.len());
+            self.0.extend(text.chars().take(room));
+            match self.0.len() < MOST_LETTERS {
+                true => Ok(()),
+                false => Err(fmt::Error),
+            }
+        }
+    }
+    let mut brief = Brief(String::new());
+    match fmt::write(&mut brief, format_args!("{answer:?}")) {
+        Ok(()) => brief.0,
+        Err(_) => brief.0 + "...",
+    }
 }
 
 /// Nothing where two answers are equal.
@@ -121,6 +161,7 @@ fn dictionary_verdict<'d>(
             agree("an accepted dictionary's numbers", ours, numbers)?;
             names(reader, dict, &theirs, tally)?;
             tally.dictionaries += 1;
+            tally.large_dictionaries += is_large(dict);
             Ok(Some(theirs))
         }
         Err(error) => {
@@ -131,6 +172,7 @@ fn dictionary_verdict<'d>(
             dictionary_place(dict, ours, words(&error))?;
             agree("a name of a refused dictionary", reader.name(dict, 0), ours)?;
             Tally::refuse(&mut tally.dictionaries_refused, ours.code);
+            tally.large_dictionaries_refused += is_large(dict);
             Ok(None)
         }
     }
@@ -161,9 +203,15 @@ fn dictionary_place(dict: &[u8], ours: Strip, theirs: &str) -> Compared {
     }
 }
 
-/// Numbers below a count: all of few, and of many the first, the last and some between.
-fn some_of(count: usize) -> impl Iterator<Item = usize> {
-    let step = count.div_ceil(ASKED).max(1);
+/// One for a large dictionary or object, to count it.
+fn is_large(bytes: &[u8]) -> u64 {
+    u64::from(bytes.len() > LARGE)
+}
+
+/// Numbers below a count, for an input of so many bytes: all of few, and of many the first, the
+/// last and some between.
+fn some_of(count: usize, size: usize) -> impl Iterator<Item = usize> {
+    let step = count.div_ceil(asked(size)).max(1);
     let last = count.checked_sub(1).filter(|last| last % step != 0);
     (0..count).step_by(step).chain(last)
 }
@@ -174,7 +222,7 @@ fn names(
     theirs: &VariantMetadata,
     tally: &mut Tally,
 ) -> Compared {
-    for entry in some_of(theirs.len()) {
+    for entry in some_of(theirs.len(), dict.len()) {
         let ours = reader.name(dict, entry);
         let Ok(name) = theirs.get(entry) else {
             return differ("an entry's name", ours, "none");
@@ -295,12 +343,13 @@ impl<'d, R: Reader> Pair<'_, 'd, R> {
             tally.traced += 1;
         }
         Tally::refuse(&mut tally.objects_refused, layer.code);
+        tally.large_objects_refused += is_large(self.bytes);
         same_refusal(self.reader, self.dict, self.bytes, layer, tally)
     }
 
     fn accepted(&self, query: Option<&[u8]>, tally: &mut Tally) -> Compared {
         self.numbers()?;
-        let fields = self.listed()?;
+        let fields = self.placed()?;
         let lookups = self.lookups(&fields, query)?;
         let whole = self.whole(&fields, &lookups, tally)?;
         let alone = self.alone(&fields, &lookups, tally)?;
@@ -308,6 +357,7 @@ impl<'d, R: Reader> Pair<'_, 'd, R> {
         self.many().accepted(&lookups, tally)?;
         if whole || alone {
             tally.fields += fields.len() as u64;
+            tally.large_objects += is_large(self.bytes);
             tally.together += lookups.len() as u64;
             lookups.iter().for_each(|lookup| lookup.count(tally));
         }
@@ -345,27 +395,64 @@ impl<'d, R: Reader> Pair<'_, 'd, R> {
             && (!metadata.is_sorted() || metadata.get_entry(text).is_some_and(found))
     }
 
-    /// Our listing, after a look at what it may not touch.
-    fn listed(&self) -> Compared<Vec<Field>> {
-        let length = WORDS_PER_FIELD * self.layer.number as usize;
+    /// The fields by our answers: our listing or, of very many, our lookup of all their names.
+    fn placed(&self) -> Compared<Vec<Placed>> {
+        let fields = self.layer.number as usize;
+        if fields > 0 {
+            self.too_little_room(WORDS_PER_FIELD * fields - 1)?;
+        }
+        match fields {
+            0..=LISTED => self.listed(WORDS_PER_FIELD * fields),
+            _ => self.looked_up(),
+        }
+    }
+
+    fn too_little_room(&self, words: usize) -> Compared {
+        let mut room = vec![UNWRITTEN; words];
+        let listed = self.reader.list(self.dict, self.bytes, &mut room);
+        agree("a listing in too little room", listed, refused(41, 0))?;
+        let left = room.iter().all(|&word| word == UNWRITTEN);
+        agree("that the words are left under 41", left, true)
+    }
+
+    /// Our listing of so many words, after a look at what it may not touch.
+    fn listed(&self, length: usize) -> Compared<Vec<Placed>> {
         let mut words = vec![UNWRITTEN; length + 2];
         let listed = self.reader.list(self.dict, self.bytes, &mut words);
         agree("a listing's numbers", listed, self.layer)?;
         let after = words.split_off(length);
         agree("the words after a listing", after, vec![UNWRITTEN; 2])?;
-        if length > 0 {
-            let mut room = vec![UNWRITTEN; length - 1];
-            let listed = self.reader.list(self.dict, self.bytes, &mut room);
-            agree("a listing in too little room", listed, refused(41, 0))?;
-            agree(
-                "the words under 41",
-                room.iter().all(|&word| word == UNWRITTEN),
-                true,
-            )?;
-        }
         let fields: Vec<Field> = lichenhusk::fields_of(&words).collect();
         self.spans(&fields)?;
-        Ok(fields)
+        let placed = |&Field { id, start, .. }: &Field| Placed { id, start };
+        Ok(fields.iter().map(placed).collect())
+    }
+
+    /// What a lookup of all fields' names finds: each field in its order, with its own id.
+    fn looked_up(&self) -> Compared<Vec<Placed>> {
+        let parts = ObjectParts::of(self.bytes).expect("parts, since its numbers are theirs");
+        let id = |field: usize| parts.ids.number(self.bytes, field);
+        let ids: Vec<usize> = (0..parts.ids.count).filter_map(id).collect();
+        let name = |&id: &usize| self.metadata.get(id).map_err(|error| error.to_string());
+        let names: Vec<&str> = match ids.iter().map(name).collect() {
+            Ok(names) => names,
+            Err(error) => return differ("the ids of an accepted layer", self.layer, error),
+        };
+        let mut placed = Vec::with_capacity(ids.len());
+        for ((field, id), row) in ids
+            .into_iter()
+            .enumerate()
+            .zip(self.many().rows_of(&names)?)
+        {
+            let (start, end) = (row.start as usize, self.layer.end as usize);
+            agree(
+                "among all fields' names, a field",
+                row,
+                found(field, id, start, end),
+            )?;
+            placed.push(Placed { id: row.id, start });
+        }
+        Ok(placed)
     }
 
     /// Each span runs to the least larger start, the trimmed end among them.
@@ -382,22 +469,24 @@ impl<'d, R: Reader> Pair<'_, 'd, R> {
     }
 
     /// The names that are looked for: the fields', others of the dictionary, and names near these.
-    fn queries(&self, fields: &[Field], query: Option<&[u8]>) -> Vec<Vec<u8>> {
+    fn queries(&self, fields: &[Placed], query: Option<&[u8]>) -> Vec<Vec<u8>> {
+        let size = self.dict.len() + self.bytes.len();
         let name = |entry: usize| self.metadata.get(entry).unwrap_or_default().as_bytes();
         let mut queries: Vec<Vec<u8>> = vec![b"".to_vec(), b"\xFF".to_vec()];
         queries.extend(query.map(<[u8]>::to_vec));
-        for field in some_of(fields.len()) {
+        for field in some_of(fields.len(), size) {
             let name = name(fields[field].id as usize);
             queries.push(name.to_vec());
             queries.push([name, b"\0"].concat());
             queries.push(name[..name.len().saturating_sub(1)].to_vec());
         }
-        queries.extend(some_of(self.metadata.len()).map(|entry| name(entry).to_vec()));
+        let entries = some_of(self.metadata.len(), size);
+        queries.extend(entries.map(|entry| name(entry).to_vec()));
         queries
     }
 
     /// Our lookups, of each name alone and of all at once.
-    fn lookups(&self, fields: &[Field], query: Option<&[u8]>) -> Compared<Vec<Lookup>> {
+    fn lookups(&self, fields: &[Placed], query: Option<&[u8]>) -> Compared<Vec<Lookup>> {
         let queries = self.queries(fields, query);
         let rows = self.many().rows_of(&queries)?;
         let ask = |(query, row): (Vec<u8>, Strip)| Lookup {
@@ -409,17 +498,19 @@ impl<'d, R: Reader> Pair<'_, 'd, R> {
     }
 
     /// The id that a lookup finds is the listing's.
-    fn ids(&self, fields: &[Field], lookups: &[Lookup]) -> Compared {
+    fn ids(&self, fields: &[Placed], lookups: &[Lookup]) -> Compared {
         for Lookup { query, ours, .. } in lookups.iter().filter(|lookup| lookup.ours.code == OK) {
             let listed = fields.get(ours.number as usize).map(|field| field.id);
-            agree(&format!("the id of {}", hex(query)), Some(ours.id), listed)?;
+            if listed != Some(ours.id) {
+                return differ(&format!("the id of {}", shown(query)), ours.id, listed);
+            }
         }
         Ok(())
     }
 
     /// The object as it is: accepted exactly when each child is, and then the same throughout.
     /// True if it is accepted.
-    fn whole(&self, fields: &[Field], lookups: &[Lookup], tally: &mut Tally) -> Compared<bool> {
+    fn whole(&self, fields: &[Placed], lookups: &[Lookup], tally: &mut Tally) -> Compared<bool> {
         let end = self.layer.end as usize;
         let children = fields.iter().all(|field| self.value(field.start).is_some());
         let theirs = self.theirs(self.bytes);
@@ -451,7 +542,7 @@ impl<'d, R: Reader> Pair<'_, 'd, R> {
 
     /// The layer alone, by a copy with children that tell where they are. True if there can be
     /// such a copy.
-    fn alone(&self, fields: &[Field], lookups: &[Lookup], tally: &mut Tally) -> Compared<bool> {
+    fn alone(&self, fields: &[Placed], lookups: &[Lookup], tally: &mut Tally) -> Compared<bool> {
         let Some(copy) = traced(self.bytes) else {
             return Ok(false);
         };
@@ -468,11 +559,11 @@ impl<'d, R: Reader> Pair<'_, 'd, R> {
         Ok(true)
     }
 
-    /// Names in field order by our listing, and each field's value by its start.
+    /// Names in field order by our ids, and each field's value by its start.
     fn fields(
         &self,
         theirs: &VariantObject<'d, '_>,
-        fields: &[Field],
+        fields: &[Placed],
         is_at: impl Fn(&Variant, usize) -> bool,
     ) -> Compared {
         agree("the field count", fields.len(), theirs.len())?;
@@ -509,7 +600,7 @@ impl<'d, R: Reader> Pair<'_, 'd, R> {
                     }
                 };
                 if !agrees {
-                    return differ(&format!("{asked} {}", hex(query)), ours, value);
+                    return differ(&format!("{asked} {}", shown(query)), ours, value);
                 }
             }
         }
@@ -524,6 +615,15 @@ impl<'d, R: Reader> Pair<'_, 'd, R> {
         let name = theirs.field_name(field);
         *ours == found(field, id, start, end) && name.is_some_and(|name| self.is_id(id, text, name))
     }
+}
+
+/// A field by our answers.
+#[derive(Clone, Copy, Debug)]
+struct Placed {
+    /// The entry of the dictionary that is its name.
+    id: u32,
+    /// Where its child starts in the object.
+    start: usize,
 }
 
 /// A name, our answer to it alone, and the one to it among others.

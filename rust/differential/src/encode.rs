@@ -82,6 +82,14 @@ pub fn plain_object(ids: &[usize], children: &[Vec<u8>]) -> Vec<u8> {
     object(ids, &offsets, &region, shape)
 }
 
+/// The binary value that has so many bytes in all, five of them for its type and length.
+pub fn binary(length: usize) -> Vec<u8> {
+    let mut bytes = vec![15 << 2];
+    put(&mut bytes, length - 5, 4);
+    bytes.resize(length, 0xAB);
+    bytes
+}
+
 /// The list of elements.
 pub fn list(elements: &[Vec<u8>]) -> Vec<u8> {
     let (offsets, region) = laid_out(elements);

@@ -1,5 +1,6 @@
 //! Readers that are wrong on purpose, to see that the comparison tells.
 
+use crate::LARGE;
 use crate::many::bad_ends;
 use crate::ours::{Reader, absent, accepted, found, refused};
 use lichenhusk::{ABSENT, OK, Strip, WORDS_PER_NAME};
@@ -19,7 +20,7 @@ pub enum Fault {
     FieldAsId,
     /// Gives field and id in each other's word.
     SwapsFieldAndId,
-    /// Gives the first entry of that name, whichever is the field's.
+    /// Gives the first entry of that name, if it is one of the first few, whichever is the field's.
     FirstEntryAsId,
     /// Gives no id.
     NoId,
@@ -63,6 +64,22 @@ pub enum Fault {
     NoEmptyNames,
     /// Reads a dictionary over the limit.
     NoLimit,
+    /// Reads an object over the limit.
+    NoObjectLimit,
+    /// Has the limit that was before, 65,536 bytes, for dictionaries.
+    OldLimit,
+    /// Has the limit that was before for objects.
+    OldObjectLimit,
+    /// Gives counts of entries and of fields in two bytes.
+    CountsOfTwoBytes,
+    /// Gives the field in two bytes.
+    FieldsOfTwoBytes,
+    /// Gives the id in two bytes.
+    IdsOfTwoBytes,
+    /// Gives starts and ends in two bytes.
+    PlacesOfTwoBytes,
+    /// Gives starts and ends in three bytes.
+    PlacesOfThreeBytes,
     /// Takes ids that name no entry.
     TakesAnyId,
     /// Takes fields in any order.
@@ -102,7 +119,7 @@ pub enum Fault {
 }
 
 /// Every fault.
-pub const ALL: [Fault; 46] = [
+pub const ALL: [Fault; 54] = [
     Fault::AlwaysShort,
     Fault::AbsentIsFound,
     Fault::AlwaysAbsent,
@@ -131,6 +148,14 @@ pub const ALL: [Fault; 46] = [
     Fault::Wraps,
     Fault::NoEmptyNames,
     Fault::NoLimit,
+    Fault::NoObjectLimit,
+    Fault::OldLimit,
+    Fault::OldObjectLimit,
+    Fault::CountsOfTwoBytes,
+    Fault::FieldsOfTwoBytes,
+    Fault::IdsOfTwoBytes,
+    Fault::PlacesOfTwoBytes,
+    Fault::PlacesOfThreeBytes,
     Fault::TakesAnyId,
     Fault::TakesAnyFields,
     Fault::TakesAnyType,
@@ -151,6 +176,19 @@ pub const ALL: [Fault; 46] = [
     Fault::LastBadEnd,
 ];
 
+/// The greatest numbers of two and of three bytes.
+const TWO_BYTES: usize = 0xFFFF;
+const THREE_BYTES: usize = 0xFF_FFFF;
+
+/// An answer whose places keep the bits of a number.
+fn with_places(strip: Strip, bits: usize) -> Strip {
+    Strip {
+        start: strip.start & bits as u32,
+        end: strip.end & bits as u32,
+        ..strip
+    }
+}
+
 /// A right reader with a fault put over its answers.
 #[derive(Clone, Copy, Debug)]
 pub struct Faulty<R> {
@@ -168,6 +206,7 @@ impl<R: Reader> Faulty<R> {
             Fault::CutsCharacters => code == 17,
             Fault::TakesAnyOrder => code == 18,
             Fault::NoLimit => code == 10,
+            Fault::NoObjectLimit => code == 20,
             Fault::TakesAnyType => code == 22,
             Fault::TakesAnyId => code == 25,
             Fault::TakesAnyFields => code == 26,
@@ -186,6 +225,8 @@ impl<R: Reader> Faulty<R> {
             Fault::LateCut if strip.code == 19 => refused(19, strip.place + 1),
             Fault::Wraps if strip.code == 14 => refused(13, 0),
             Fault::Wraps if strip.code == 24 => refused(23, 0),
+            Fault::PlacesOfTwoBytes => with_places(strip, TWO_BYTES),
+            Fault::PlacesOfThreeBytes => with_places(strip, THREE_BYTES),
             _ if self.takes(strip.code) => accepted(0, 0, 0),
             _ => strip,
         }
@@ -206,6 +247,8 @@ impl<R: Reader> Faulty<R> {
         let (fields, region) = (strip.number as usize, strip.start as usize);
         let end = strip.end as usize;
         match self.fault {
+            Fault::OldObjectLimit if object.len() > LARGE => refused(20, 0),
+            Fault::CountsOfTwoBytes => accepted(fields & TWO_BYTES, region, end),
             Fault::UntrimmedObject => accepted(fields, region, object.len()),
             Fault::NoRegion => accepted(fields, 0, end),
             Fault::OneFieldMore => accepted(fields + 1, region, end),
@@ -283,10 +326,13 @@ impl<R: Reader> Reader for Faulty<R> {
             let name = self.reader.name(dict, entry);
             name.start == name.end
         };
+        let (entries, end) = (strip.number as usize, strip.end as usize);
         match self.fault {
-            Fault::UntrimmedDictionary => accepted(strip.number as usize, 0, dict.len()),
-            Fault::CountFromHeader => accepted(dict[0] as usize & 15, 0, strip.end as usize),
-            Fault::NoEmptyNames if (0..strip.number as usize).any(empty_name) => refused(17, 0),
+            Fault::OldLimit if dict.len() > LARGE => refused(10, 0),
+            Fault::CountsOfTwoBytes => accepted(entries & TWO_BYTES, 0, end),
+            Fault::UntrimmedDictionary => accepted(entries, 0, dict.len()),
+            Fault::CountFromHeader => accepted(dict[0] as usize & 15, 0, end),
+            Fault::NoEmptyNames if (0..entries).any(empty_name) => refused(17, 0),
             _ => self.wrong(strip),
         }
     }
@@ -321,9 +367,13 @@ impl<R: Reader> Reader for Faulty<R> {
                     let at = self.reader.name(dict, entry);
                     dict[at.start as usize..at.end as usize] == *name
                 };
-                found(field, (0..id).find(is_it).unwrap_or(id), from, end)
+                // Each look is a whole check, so that not all entries are looked at.
+                let first = (0..id.min(16)).find(is_it);
+                found(field, first.unwrap_or(id), from, end)
             }
             (Fault::NoId, OK) => found(field, 0, from, end),
+            (Fault::FieldsOfTwoBytes, OK) => found(field & TWO_BYTES, id, from, end),
+            (Fault::IdsOfTwoBytes, OK) => found(field, id & TWO_BYTES, from, end),
             (Fault::IdOfAbsent, ABSENT) => Strip { id: 1, ..strip },
             (Fault::WholeObject, OK) => found(field, id, 0, end),
             (Fault::EndsAtNextOffset, OK) => {

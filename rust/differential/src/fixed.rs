@@ -1,10 +1,10 @@
 //! Inputs that are the same in every run: the documents', those of many entries and fields, those
-//! at the limits of length, and values nested as deep as the domain goes.
+//! of a given length, and values nested as deep as the domain goes.
 
-use crate::Input;
-use crate::encode::{self, DictionaryShape, ObjectShape};
+use crate::encode::{self, DictionaryShape, ObjectShape, least_width};
 use crate::generate::DEEPEST;
-use lichenhusk::LIMIT;
+use crate::{Input, LARGE};
+use std::iter::once_with;
 
 /// Document 01's dictionary, sorted: "flow" and "roll".
 pub const SORTED: &[u8] = b"\x11\x02\x00\x04\x08flowroll";
@@ -15,14 +15,26 @@ pub const UNSORTED: &[u8] = b"\x01\x04\x00\x01\x02\x02\x03bab";
 /// Document 01's object over its dictionary.
 pub const OBJECT: &[u8] = b"\x02\x02\x00\x01\x01\x00\x03\x04\x0C\xFB";
 
-/// All of them.
+/// All of them, with lengths about that from which on places take three bytes.
 pub fn inputs() -> Vec<Input> {
     let mut all = worked();
     all.extend(many());
-    all.extend(long_dictionaries());
-    all.extend(long_objects());
+    all.extend(lengths_about(LARGE).flat_map(of_length));
     all.extend(nested());
     all
+}
+
+/// A length, the one before and the one after, the longest first.
+pub fn lengths_about(length: usize) -> impl Iterator<Item = usize> {
+    (length - 1..=length + 1).rev()
+}
+
+/// Inputs of which the dictionary, or the object, has a length. They are made one at a time: they
+/// may be long.
+pub fn of_length(length: usize) -> impl Iterator<Item = Input> {
+    long_dictionaries(length)
+        .map(over_it)
+        .chain(long_objects(length))
 }
 
 /// The worked cases of document 01, and request b)'s.
@@ -73,40 +85,27 @@ fn worked() -> Vec<Input> {
 }
 
 /// Dictionaries and objects of 257 entries and fields, sorted and unsorted, whose numbers take
-/// two bytes and whose count takes four. The children are shared.
+/// two bytes and whose count takes four.
 fn many() -> Vec<Input> {
     let mut names: Vec<Vec<u8>> = (0..257).map(|n| format!("{n:X}").into_bytes()).collect();
-    let unsorted = many_of(&names, false);
+    let object = object_shape(2, 1, true);
+    let unsorted = all_fields(&names, shape(2, false), object);
     names.sort();
-    vec![many_of(&names, true), unsorted]
+    vec![all_fields(&names, shape(2, true), object), unsorted]
 }
 
-fn many_of(names: &[Vec<u8>], sorted: bool) -> Input {
+/// A dictionary of names, and an object that has all of them as fields, which share three children.
+pub fn all_fields(names: &[Vec<u8>], dict: DictionaryShape, object: ObjectShape) -> Input {
     let mut ids: Vec<usize> = (0..names.len()).collect();
     ids.sort_by_key(|&id| &names[id]);
     let mut offsets: Vec<usize> = ids.iter().map(|id| id % 3).collect();
     offsets.push(3);
-    let object_shape = ObjectShape {
-        id_width: 2,
-        offset_width: 1,
-        long_count: true,
-        spare: false,
-    };
+    let region = [0x00, 0x04, 0x08];
     Input {
-        dict: encode::dictionary(names, shape(2, sorted)),
-        object: Some(encode::object(
-            &ids,
-            &offsets,
-            &[0x00, 0x04, 0x08],
-            object_shape,
-        )),
+        dict: encode::dictionary(names, dict),
+        object: Some(encode::object(&ids, &offsets, &region, object)),
         query: names.last().cloned(),
     }
-}
-
-/// The lengths about the limit.
-fn lengths() -> impl Iterator<Item = usize> {
-    LIMIT - 1..=LIMIT + 1
 }
 
 fn padded(bytes: &[u8], length: usize) -> Vec<u8> {
@@ -115,20 +114,23 @@ fn padded(bytes: &[u8], length: usize) -> Vec<u8> {
     bytes
 }
 
-/// Dictionaries of the lengths about the limit: bytes after the end, one name, many names.
-fn long_dictionaries() -> Vec<Input> {
-    let mut all = Vec::new();
-    for length in lengths() {
-        all.push(padded(SORTED, length));
-        for width in 2..=4 {
-            for sorted in [true, false] {
-                all.push(one_name(length, width, sorted));
-                all.push(many_names(length, width, sorted));
-            }
-        }
-        all.push(empty_names(length));
-    }
-    all.into_iter().map(over_it).collect()
+/// Dictionaries of a length: bytes after the end, one name, many names, names of no bytes.
+fn long_dictionaries(length: usize) -> impl Iterator<Item = Vec<u8>> {
+    once_with(move || padded(SORTED, length))
+        .chain(shapes(length).map(move |shape| one_name(length, shape)))
+        .chain(shapes(length).map(move |shape| many_names(length, shape)))
+        .chain(once_with(move || empty_names(length)))
+}
+
+/// Shapes of dictionaries whose last offset is just below a length.
+fn shapes(length: usize) -> impl Iterator<Item = DictionaryShape> {
+    widths(length).flat_map(|width| [true, false].map(|sorted| shape(width, sorted)))
+}
+
+/// Widths of offsets of which the last is just below a length.
+fn widths(length: usize) -> impl Iterator<Item = usize> {
+    // The first bytes are no part of what is counted.
+    least_width(length - 5)..=4
 }
 
 /// A dictionary with an object that has the first and the last entry, as far as they go.
@@ -138,7 +140,8 @@ fn over_it(dict: Vec<u8>) -> Input {
     Input::object(dict, object)
 }
 
-fn shape(width: usize, sorted: bool) -> DictionaryShape {
+/// The shape of a dictionary of a width.
+pub fn shape(width: usize, sorted: bool) -> DictionaryShape {
     DictionaryShape {
         width,
         sorted,
@@ -146,83 +149,80 @@ fn shape(width: usize, sorted: bool) -> DictionaryShape {
     }
 }
 
-/// A dictionary of one name, so long that the whole has a length.
-fn one_name(length: usize, width: usize, sorted: bool) -> Vec<u8> {
-    let head = 1 + width + 2 * width;
-    encode::dictionary(&[vec![b'n'; length - head]], shape(width, sorted))
+/// The shape of an object of widths.
+pub fn object_shape(id_width: usize, offset_width: usize, long_count: bool) -> ObjectShape {
+    ObjectShape {
+        id_width,
+        offset_width,
+        long_count,
+        spare: false,
+    }
 }
 
-/// A dictionary of increasing names of four bytes, and a last one that fills up a length.
-fn many_names(length: usize, width: usize, sorted: bool) -> Vec<u8> {
-    let each = width + 4;
-    let count = (length - 1 - 2 * width) / each - 1;
-    let mut names: Vec<Vec<u8>> = (0..count)
-        .map(|n| format!("{n:04x}").into_bytes())
-        .collect();
-    let rest = length - (1 + 2 * width + each * count) - width;
+/// A dictionary of one name, so long that the whole has a length.
+fn one_name(length: usize, shape: DictionaryShape) -> Vec<u8> {
+    let head = 1 + 3 * shape.width;
+    encode::dictionary(&[vec![b'n'; length - head]], shape)
+}
+
+/// A dictionary of increasing names of six bytes, and a last one that fills up a length.
+fn many_names(length: usize, shape: DictionaryShape) -> Vec<u8> {
+    let (each, head) = (shape.width + 6, 1 + 2 * shape.width);
+    let count = (length - head) / each - 1;
+    let mut names = numbered(count);
+    let rest = length - (head + each * count) - shape.width;
     names.push(vec![b'z'; rest]);
-    encode::dictionary(&names, shape(width, sorted))
+    encode::dictionary(&names, shape)
+}
+
+/// So many increasing names of six bytes.
+pub fn numbered(count: usize) -> Vec<Vec<u8>> {
+    let digit = |number: usize, place: usize| b"0123456789abcdef"[number >> (4 * place) & 15];
+    let name = |number| (0..6).rev().map(|place| digit(number, place)).collect();
+    (0..count).map(name).collect()
 }
 
 /// An unsorted dictionary of empty names alone, with bytes after its end up to a length.
 fn empty_names(length: usize) -> Vec<u8> {
-    let count = (length - 5) / 2;
+    let width = least_width(length / 2);
+    let count = (length - 1 - 2 * width) / width;
     padded(
-        &encode::dictionary(&vec![vec![]; count], shape(2, false)),
+        &encode::dictionary(&vec![vec![]; count], shape(width, false)),
         length,
     )
 }
 
-/// Objects of the lengths about the limit: bytes after the end, one child, many fields.
-fn long_objects() -> Vec<Input> {
-    let mut all = Vec::new();
-    for length in lengths() {
-        all.push(Input::object(SORTED.to_vec(), padded(OBJECT, length)));
-        all.push(Input::object(UNSORTED.to_vec(), padded(OBJECT, length)));
-        for offset_width in 2..=4 {
-            all.push(Input::object(
-                SORTED.to_vec(),
-                one_child(length, offset_width),
-            ));
-        }
-        for sorted in [true, false] {
-            all.push(many_fields(length, sorted));
-        }
-    }
-    all
+/// Objects of a length: bytes after the end, one child, many fields.
+fn long_objects(length: usize) -> impl Iterator<Item = Input> {
+    let after = [SORTED, UNSORTED].into_iter();
+    let after = after.map(move |dict| Input::object(dict.to_vec(), padded(OBJECT, length)));
+    let child = move |offset_width| {
+        let shape = object_shape(1, offset_width, false);
+        Input::object(SORTED.to_vec(), one_child(length, shape))
+    };
+    let fields = move |sorted| many_fields(length, sorted);
+    after
+        .chain(widths(length).map(child))
+        .chain([true, false].into_iter().map(fields))
 }
 
 /// An object of one child, a binary, so long that the whole has a length.
-fn one_child(length: usize, offset_width: usize) -> Vec<u8> {
-    let shape = ObjectShape {
-        id_width: 1,
-        offset_width,
-        long_count: false,
-        spare: false,
-    };
-    let head = 1 + 1 + 1 + 2 * offset_width;
+pub fn one_child(length: usize, shape: ObjectShape) -> Vec<u8> {
+    let count_width = if shape.long_count { 4 } else { 1 };
+    let head = 1 + count_width + shape.id_width + 2 * shape.offset_width;
     let region = length - head;
-    let mut child = vec![15 << 2];
-    encode::put(&mut child, region - 5, 4);
-    child.resize(region, 0xAB);
-    encode::object(&[1], &[0, region], &child, shape)
+    encode::object(&[1], &[0, region], &encode::binary(region), shape)
 }
 
-/// An object of many fields that share their children, with bytes after its end up to a length.
+/// An object of many fields, with bytes after its end up to a length.
 fn many_fields(length: usize, sorted: bool) -> Input {
-    let names: Vec<Vec<u8>> = (0..7000).map(|n| format!("{n:05}").into_bytes()).collect();
-    let dict = encode::dictionary(&names, shape(2, sorted));
-    let ids: Vec<usize> = (0..names.len()).collect();
-    let mut offsets: Vec<usize> = ids.iter().map(|id| id % 3).collect();
-    offsets.push(3);
-    let shape = ObjectShape {
-        id_width: 2,
-        offset_width: 4,
-        long_count: true,
+    let object = ObjectShape {
         spare: true,
+        ..object_shape(2, 4, true)
     };
-    let object = encode::object(&ids, &offsets, &[0x00, 0x04, 0x08], shape);
-    Input::object(dict, padded(&object, length))
+    let mut input = all_fields(&numbered(7000), shape(2, sorted), object);
+    input.object = input.object.map(|object| padded(&object, length));
+    input
 }
 
 /// Objects in objects and in lists, two deep to the deepest.

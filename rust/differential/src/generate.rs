@@ -4,6 +4,7 @@
 use crate::Input;
 use crate::encode::{self, DictionaryShape, ObjectShape, least_width};
 use crate::random::Random;
+use std::iter::repeat_n;
 
 /// How deep values are nested at most, the outermost object included.
 pub const DEEPEST: usize = 8;
@@ -18,7 +19,11 @@ pub fn good(random: &mut Random) -> Input {
     };
     let mut dict = encode::dictionary(&names, shape);
     let levels = random.between(0, DEEPEST - 1);
-    let mut object = outer_object(random, &names, levels);
+    // The first few children have levels in them.
+    let mut depths = repeat_n(levels, 4);
+    let mut object = outer_object(random, &names, 4000, |random| {
+        child(random, &names, depths.next().unwrap_or(0))
+    });
     if random.one_in(4) {
         append_bytes(random, &mut dict);
     }
@@ -33,13 +38,14 @@ pub fn good(random: &mut Random) -> Input {
 }
 
 /// Bytes that belong to nothing.
-fn append_bytes(random: &mut Random, bytes: &mut Vec<u8>) {
+pub(crate) fn append_bytes(random: &mut Random, bytes: &mut Vec<u8>) {
     for _ in 0..random.between(1, 5) {
         bytes.push(random.byte());
     }
 }
 
-fn dictionary_width(random: &mut Random, names: &[Vec<u8>]) -> usize {
+/// A width that holds the dictionary's numbers.
+pub(crate) fn dictionary_width(random: &mut Random, names: &[Vec<u8>]) -> usize {
     let total = names.iter().map(Vec::len).sum::<usize>();
     random.between(least_width(total.max(names.len())), 4)
 }
@@ -52,9 +58,14 @@ fn names(random: &mut Random) -> (Vec<Vec<u8>>, bool) {
     } else {
         vec![]
     };
-    let mut names: Vec<Vec<u8>> = (0..count)
+    let names = (0..count)
         .map(|_| [prefix.clone(), name(random)].concat())
         .collect();
+    sorted_or_not(random, names)
+}
+
+/// Names, made to increase or left as they are, and which of the two.
+pub(crate) fn sorted_or_not(random: &mut Random, mut names: Vec<Vec<u8>>) -> (Vec<Vec<u8>>, bool) {
     let sorted = random.one_in(2);
     if sorted {
         names.sort();
@@ -73,7 +84,7 @@ fn entry_count(random: &mut Random) -> usize {
 }
 
 /// A name: of one to four bytes a character, or of none at all.
-fn name(random: &mut Random) -> Vec<u8> {
+pub(crate) fn name(random: &mut Random) -> Vec<u8> {
     let alphabet: &[char] = match random.below(5) {
         0 => &['a', 'b'],
         1 => &['a', 'b', 'c', 'x', 'y', 'z', '_', '0', '\0', '\u{7F}'],
@@ -101,16 +112,21 @@ fn field_ids(random: &mut Random, names: &[Vec<u8>], most: usize) -> Vec<usize> 
     ids
 }
 
-/// An object whose children lie anywhere in its region and may be shared.
-fn outer_object(random: &mut Random, names: &[Vec<u8>], levels: usize) -> Vec<u8> {
-    let ids = field_ids(random, names, 4000);
+/// An object of so many fields at most, whose children a function makes; they lie anywhere in its
+/// region and may be shared.
+pub(crate) fn outer_object(
+    random: &mut Random,
+    names: &[Vec<u8>],
+    most: usize,
+    mut child: impl FnMut(&mut Random) -> Vec<u8>,
+) -> Vec<u8> {
+    let ids = field_ids(random, names, most);
     let mut region = Vec::new();
     let mut offsets = vec![0; ids.len()];
     let mut order: Vec<usize> = (0..ids.len()).collect();
     if random.one_in(2) {
         random.shuffle(&mut order);
     }
-    let mut deep = 4;
     for (index, &field) in order.iter().enumerate() {
         if index > 0 && random.one_in(8) {
             offsets[field] = offsets[order[random.below(index)]];
@@ -120,9 +136,7 @@ fn outer_object(random: &mut Random, names: &[Vec<u8>], levels: usize) -> Vec<u8
             append_bytes(random, &mut region);
         }
         offsets[field] = region.len();
-        let levels = if deep > 0 { levels } else { 0 };
-        deep -= usize::from(deep > 0);
-        region.extend(child(random, names, levels));
+        region.extend(child(random));
     }
     if !ids.is_empty() && random.one_in(64) {
         offsets[random.below(ids.len())] = region.len();

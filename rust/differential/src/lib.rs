@@ -1,9 +1,9 @@
 //! Lichenhusk and the Rust crate that it was ported from, given the same bytes.
 //!
 //! [`compare`] says what must agree, and [`many`] of many names at once; [`ours`] and [`original`]
-//! are the two sides; [`fixed`], [`exhaustive`], [`long_names`], [`generate`] and [`damage`] make the
-//! inputs; [`run`] goes through them, counting in a [`tally`], and has [`shrink`] make an input that
-//! disagrees as small as it can.
+//! are the two sides; [`fixed`], [`exhaustive`], [`long_names`], [`generate`], [`large`] and
+//! [`damage`] make the inputs; [`run`] goes through them, counting in a [`tally`], and has [`shrink`]
+//! make an input that disagrees as small as it can.
 //! [`replay`] writes answers of the Rust's down, to be asked again where it is not at hand.
 
 pub mod compare;
@@ -13,6 +13,7 @@ pub mod exhaustive;
 pub mod faults;
 pub mod fixed;
 pub mod generate;
+pub mod large;
 pub mod long_names;
 pub mod many;
 pub mod original;
@@ -23,6 +24,9 @@ pub mod replay;
 pub mod run;
 pub mod shrink;
 pub mod tally;
+
+/// A dictionary or an object of more bytes is a large one: its places take more than two bytes.
+pub const LARGE: usize = 65_536;
 
 /// What both sides are asked about. Without an object, the dictionary alone.
 #[derive(Clone, Debug, Default, PartialEq, Eq)]
@@ -66,4 +70,12 @@ pub fn hex(bytes: &[u8]) -> String {
         return "-".to_string();
     }
     bytes.iter().map(|byte| format!("{byte:02X}")).collect()
+}
+
+/// Bytes in hex for a reader: of many, the first and how many there are.
+pub fn shown(bytes: &[u8]) -> String {
+    match bytes.len() {
+        0..=4096 => hex(bytes),
+        length => format!("{}... ({length} bytes)", hex(&bytes[..64])),
+    }
 }

@@ -13,6 +13,9 @@ usage: differential short [--seed N]
        differential long [--seed N] [--inputs N] [--minutes N]
        differential replay LINES [--seed N]";
 
+/// How long an input that disagrees is made smaller.
+const PATIENCE: Duration = Duration::from_secs(20);
+
 fn main() -> ExitCode {
     // A panic of either side is caught and told as a disagreement.
     std::panic::set_hook(Box::new(|_| {}));
@@ -70,9 +73,11 @@ fn short(options: &Options) -> Settings {
     Settings {
         seed: options.seed,
         generated: 300_000,
+        large: 60,
         every: 3,
         telling: 7,
         limit: Duration::from_secs(50),
+        patience: PATIENCE,
     }
 }
 
@@ -80,9 +85,11 @@ fn long(options: &Options) -> Settings {
     Settings {
         seed: options.seed,
         generated: options.inputs,
+        large: 6_000,
         every: 3,
         telling: 8,
         limit: Duration::from_secs(60 * options.minutes),
+        patience: PATIENCE,
     }
 }
 

@@ -8,8 +8,8 @@
 //! object and the room. Every refusal leaves the words.
 
 use crate::compare::{Compared, Lookup, UNWRITTEN, agree, differ};
-use crate::hex;
 use crate::ours::{Reader, refused};
+use crate::shown;
 use crate::tally::Tally;
 use lichenhusk::{Strip, WORDS_PER_NAME, run_of};
 
@@ -28,7 +28,7 @@ pub struct Many<'a, R> {
 impl<R: Reader> Many<'_, R> {
     /// Our answers to names, in their order, of an object that is accepted.
     pub fn rows_of(&self, names: &[impl AsRef<[u8]>]) -> Compared<Vec<Strip>> {
-        let (run, ends) = run_of(names).expect("names of few bytes");
+        let (run, ends) = run_of(names).expect("fewer bytes than 32 bits count");
         self.rows(&run, &ends)
     }
 
@@ -73,12 +73,12 @@ impl<R: Reader> Many<'_, R> {
         let around = lookups.iter().cycle().skip(from);
         let asked: Vec<&Lookup> = around.take(lookups.len() + 1).collect();
         let names: Vec<&[u8]> = asked.iter().map(|lookup| &lookup.query[..]).collect();
-        let (run, ends) = run_of(&names).expect("names of few bytes");
+        let (run, ends) = run_of(&names).expect("fewer bytes than 32 bits count");
         // An odd and an even number of names, one and none; the others' bytes are after the end.
         for count in [names.len(), names.len() - 1, 1, 0] {
             for (row, lookup) in self.rows(&run, &ends[..count])?.iter().zip(&asked) {
                 if *row != lookup.ours {
-                    let asked = format!("among {count} names, the field {}", hex(&lookup.query));
+                    let asked = format!("among {count} names, the field {}", shown(&lookup.query));
                     return differ(&asked, row, lookup.ours);
                 }
             }

@@ -40,6 +40,14 @@ impl Row {
         Some(higher << 8 | *low as usize)
     }
 
+    /// All of its numbers, if the bytes have them.
+    pub fn numbers(&self, bytes: &[u8]) -> Option<Vec<usize>> {
+        bytes.get(self.at..self.end())?;
+        (0..self.count)
+            .map(|index| self.number(bytes, index))
+            .collect()
+    }
+
     /// Writes one of its numbers, cut to its width, if the bytes have it.
     pub fn write(&self, bytes: &mut [u8], index: usize, number: usize) {
         let at = self.place(index);

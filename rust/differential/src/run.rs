@@ -12,7 +12,7 @@ use crate::ours::Reader;
 use crate::random::Random;
 use crate::shrink::smallest;
 use crate::tally::{Tally, grouped};
-use crate::{Input, hex};
+use crate::{Input, large, shown};
 use std::fmt;
 use std::panic::{AssertUnwindSafe, catch_unwind};
 use std::time::{Duration, Instant};
@@ -24,12 +24,16 @@ pub struct Settings {
     pub seed: u64,
     /// How many inputs are generated, good ones and damaged ones together.
     pub generated: u64,
+    /// How many larger messages are generated, good ones and damaged ones together.
+    pub large: u64,
     /// The length up to which every string of bytes is tried.
     pub every: usize,
     /// The length up to which every string of telling bytes is tried.
     pub telling: usize,
     /// When to stop all the same.
     pub limit: Duration,
+    /// How long an input that disagrees is made smaller.
+    pub patience: Duration,
 }
 
 /// Damaged copies of each good input.
@@ -41,8 +45,8 @@ pub struct Outcome {
     pub kinds: Vec<(&'static str, u64, Duration)>,
     /// What was seen.
     pub tally: Tally,
-    /// The slowest generated input, and its time.
-    pub slowest: (Duration, Input),
+    /// The longest time that one input took, and how many bytes it has.
+    pub slowest: (Duration, usize),
     /// Whether the limit of time came before the end.
     pub cut: bool,
     /// An input that disagrees, made small, and where the answers differ.
@@ -82,7 +86,7 @@ pub fn run(reader: &impl Reader, settings: Settings) -> Outcome {
         outcome: Outcome {
             kinds: Vec::new(),
             tally: Tally::default(),
-            slowest: (Duration::ZERO, Input::default()),
+            slowest: (Duration::ZERO, 0),
             cut: false,
             disagreement: None,
         },
@@ -91,7 +95,8 @@ pub fn run(reader: &impl Reader, settings: Settings) -> Outcome {
         Ok(()) => {}
         Err(Stop::Time) => run.outcome.cut = true,
         Err(Stop::Disagreement(input)) => {
-            let small = smallest(*input, |input| disagreement(reader, input).is_some());
+            let disagrees = |input: &Input| disagreement(reader, input).is_some();
+            let small = smallest(*input, settings.patience, disagrees);
             let found = disagreement(reader, &small).expect("only what disagrees is kept");
             run.outcome.disagreement = Some((small, found));
         }
@@ -135,6 +140,9 @@ impl<R: Reader> Run<'_, R> {
             "every object of telling bytes, two dictionaries",
             Self::telling_objects,
         )?;
+        self.kind("larger messages: widths' ends, limits of length", |run| {
+            large::fixed().try_for_each(|input| run.input(&input))
+        })?;
         self.kind("long names, plain but for a place or two", |run| {
             long_names::plain(|dict| run.dictionary(dict))
         })?;
@@ -153,7 +161,12 @@ impl<R: Reader> Run<'_, R> {
         self.kind("nine names that begin alike, each set of them", |run| {
             long_names::sets(|input| run.input(input))
         })?;
-        self.kind("generated, and damaged copies", Self::generated)
+        self.kind("generated, and damaged copies", |run| {
+            run.generated(run.settings.generated, good)
+        })?;
+        self.kind("larger messages, generated, and damaged copies", |run| {
+            run.generated(run.settings.large, large::good)
+        })
     }
 
     fn kind(&mut self, name: &'static str, go: fn(&mut Self) -> Going) -> Going {
@@ -189,7 +202,7 @@ impl<R: Reader> Run<'_, R> {
             .map_err(|_| Stop::Disagreement(Box::new(input.clone())))?;
         let taken = started.elapsed();
         if taken > self.outcome.slowest.0 {
-            self.outcome.slowest = (taken, input.clone());
+            self.outcome.slowest = (taken, input.size());
         }
         Ok(())
     }
@@ -273,9 +286,10 @@ impl<R: Reader> Run<'_, R> {
         Ok(())
     }
 
-    fn generated(&mut self) -> Going {
+    /// So many inputs, good ones of a kind and damaged copies of these.
+    fn generated(&mut self, inputs: u64, good: fn(&mut Random) -> Input) -> Going {
         let mut random = Random::seeded(self.settings.seed);
-        while self.count < self.settings.generated {
+        while self.count < inputs {
             let input = good(&mut random);
             self.input(&input)?;
             for _ in 0..COPIES {
@@ -295,8 +309,8 @@ impl fmt::Display for Outcome {
         }
         writeln!(to, "  {:<52}{:>14}", "in all", grouped(self.inputs()))?;
         writeln!(to, "answers that agree\n{}", self.tally)?;
-        let (time, input) = &self.slowest;
-        let (millis, size) = (time.as_secs_f64() * 1000.0, input.size());
+        let (time, size) = self.slowest;
+        let millis = time.as_secs_f64() * 1000.0;
         writeln!(
             to,
             "slowest input: {millis:.1} ms, {} bytes",
@@ -310,18 +324,15 @@ impl fmt::Display for Outcome {
             Some((input, found)) => write!(
                 to,
                 "DISAGREEMENT\n{found}smallest input found:\n{}",
-                shown(input)
+                lines_of(input)
             ),
         }
     }
 }
 
-/// An input in hex, or its lengths where it is long.
-fn shown(input: &Input) -> String {
-    let part = |name: &str, bytes: &[u8]| match bytes.len() {
-        0..=4096 => format!("  {name} {}\n", hex(bytes)),
-        length => format!("  {name} {}... ({length} bytes)\n", hex(&bytes[..64])),
-    };
+/// An input for a reader, a line for each of its parts.
+fn lines_of(input: &Input) -> String {
+    let part = |name: &str, bytes: &[u8]| format!("  {name} {}\n", shown(bytes));
     let mut text = part("dictionary", &input.dict);
     if let Some(object) = &input.object {
         text += &part("object    ", object);

@@ -1,10 +1,24 @@
 //! Makes an input that disagrees as small as it can while it still disagrees.
+//!
+//! Of a large input hardly a byte can be left out alone, since offsets count on it. So entries,
+//! fields and bytes of the regions are left out first, together with what counts them.
 
 use crate::Input;
+use crate::encode::put;
+use crate::reading::{DictionaryParts, ObjectParts, Row};
+use std::ops::Range;
 use std::time::{Duration, Instant};
 
-/// How long to try.
-const PATIENCE: Duration = Duration::from_secs(10);
+/// Of more things than these, not every run of a length is tried, see [`tries`]; and of more bytes,
+/// only the first are made smaller one by one: those that are shown.
+const MANY: usize = 4096;
+const FIRST: usize = 64;
+
+/// How many runs of one length, of many things, may have to stay before shorter ones are tried. The
+/// longer the input, the longer a try takes.
+fn tries(size: usize) -> usize {
+    (0x80_0000 / size).clamp(2, 32)
+}
 
 /// One of the three byte strings of an input.
 type Part = fn(&mut Input) -> Option<&mut Vec<u8>>;
@@ -15,13 +29,155 @@ const PARTS: [Part; 3] = [
     |input| Some(&mut input.dict),
 ];
 
-/// The smallest input that was found in the time there is: by leaving parts out, then bytes,
-/// then by making bytes smaller, as long as one of these does.
-pub fn smallest(input: Input, disagrees: impl Fn(&Input) -> bool) -> Input {
+/// Things in an input of which runs can be left out: how many there are, and the input without a
+/// run of them, if there is such a one.
+struct Things {
+    count: fn(&Input) -> Option<usize>,
+    without: fn(&Input, Range<usize>) -> Option<Input>,
+}
+
+/// Fields, entries, and bytes of the object's region and of the dictionary's.
+const THINGS: [Things; 4] = [
+    Things {
+        count: |input| Some(Apart::of_object(input.object.as_ref()?)?.ids.len()),
+        without: |input, run| {
+            let object = Apart::of_object(input.object.as_ref()?)?;
+            Some(with_object(input, object.without_fields(run)))
+        },
+    },
+    Things {
+        count: |input| Some(Apart::of_dictionary(&input.dict)?.offsets.len() - 1),
+        without: |input, run| {
+            let dict = Apart::of_dictionary(&input.dict)?.without_entries(run.clone())?;
+            let object = input.object.as_deref().and_then(Apart::of_object);
+            let mut fewer = input.clone();
+            fewer.dict = dict.bytes();
+            match object {
+                Some(object) => Some(with_object(&fewer, object.without_ids(run))),
+                None => Some(fewer),
+            }
+        },
+    },
+    Things {
+        count: |input| Some(Apart::of_object(input.object.as_ref()?)?.region.len()),
+        without: |input, run| {
+            let object = Apart::of_object(input.object.as_ref()?)?;
+            Some(with_object(input, object.without_bytes(run)))
+        },
+    },
+    Things {
+        count: |input| Some(Apart::of_dictionary(&input.dict)?.region.len()),
+        without: |input, run| {
+            let mut fewer = input.clone();
+            fewer.dict = Apart::of_dictionary(&input.dict)?
+                .without_bytes(run)
+                .bytes();
+            Some(fewer)
+        },
+    },
+];
+
+fn with_object(input: &Input, object: Apart) -> Input {
+    Input {
+        object: Some(object.bytes()),
+        ..input.clone()
+    }
+}
+
+/// A dictionary or an object taken apart.
+struct Apart {
+    header: u8,
+    /// Where the numbers stand; a dictionary has no ids.
+    rows: [Row; 3],
+    ids: Vec<usize>,
+    offsets: Vec<usize>,
+    /// What the offsets count, and the bytes after it.
+    region: Vec<u8>,
+}
+
+impl Apart {
+    fn of_dictionary(dict: &[u8]) -> Option<Apart> {
+        let parts = DictionaryParts::of(dict)?;
+        let no_ids = Row {
+            at: parts.count.end(),
+            width: 0,
+            count: 0,
+        };
+        Apart::of(dict, [parts.count, no_ids, parts.offsets])
+    }
+
+    fn of_object(object: &[u8]) -> Option<Apart> {
+        let parts = ObjectParts::of(object)?;
+        Apart::of(object, [parts.count, parts.ids, parts.offsets])
+    }
+
+    fn of(bytes: &[u8], rows: [Row; 3]) -> Option<Apart> {
+        let [_, ids, offsets] = rows;
+        Some(Apart {
+            header: *bytes.first()?,
+            rows,
+            ids: ids.numbers(bytes)?,
+            offsets: offsets.numbers(bytes)?,
+            region: bytes.get(offsets.end()..)?.to_vec(),
+        })
+    }
+
+    fn bytes(&self) -> Vec<u8> {
+        let mut bytes = vec![self.header];
+        let count = [self.offsets.len() - 1];
+        let numbers = [&count[..], &self.ids, &self.offsets];
+        for (row, numbers) in self.rows.iter().zip(numbers) {
+            numbers
+                .iter()
+                .for_each(|&number| put(&mut bytes, number, row.width));
+        }
+        bytes.extend_from_slice(&self.region);
+        bytes
+    }
+
+    fn without_bytes(mut self, run: Range<usize>) -> Apart {
+        for offset in &mut self.offsets {
+            *offset -= run.len().min(offset.saturating_sub(run.start));
+        }
+        self.region.drain(run);
+        self
+    }
+
+    fn without_fields(mut self, run: Range<usize>) -> Apart {
+        self.ids.drain(run.clone());
+        self.offsets.drain(run);
+        self
+    }
+
+    /// Without the fields of some ids, where the entries of these are left out.
+    fn without_ids(mut self, run: Range<usize>) -> Apart {
+        let stays: Vec<bool> = self.ids.iter().map(|id| !run.contains(id)).collect();
+        let mut field = stays.iter().chain([&true]);
+        self.offsets.retain(|_| *field.next().unwrap_or(&true));
+        self.ids.retain(|id| !run.contains(id));
+        for id in &mut self.ids {
+            *id -= if *id < run.end { 0 } else { run.len() };
+        }
+        self
+    }
+
+    /// Without some entries and their names, if those are bytes of the region.
+    fn without_entries(self, run: Range<usize>) -> Option<Apart> {
+        let names = self.offsets[run.start]..self.offsets[run.end];
+        self.region.get(names.clone())?;
+        let mut fewer = self.without_bytes(names);
+        fewer.offsets.drain(run);
+        Some(fewer)
+    }
+}
+
+/// The smallest input that was found in a time: by leaving parts out, then what they are made of,
+/// then bytes, then by making bytes smaller, as long as one of these does.
+pub fn smallest(input: Input, patience: Duration, disagrees: impl Fn(&Input) -> bool) -> Input {
     let mut search = Search {
         input,
         disagrees,
-        until: Instant::now() + PATIENCE,
+        until: Instant::now() + patience,
     };
     while search.round() {}
     search.input
@@ -39,6 +195,9 @@ impl<F: Fn(&Input) -> bool> Search<F> {
         let before = self.input.clone();
         self.change(|input| input.query = None);
         self.change(|input| input.object = None);
+        for things in &THINGS {
+            self.fewer(things);
+        }
         for part in PARTS {
             self.shorter(part);
             self.lower(part);
@@ -50,10 +209,8 @@ impl<F: Fn(&Input) -> bool> Search<F> {
         Instant::now() < self.until
     }
 
-    /// Keeps a change if the input still disagrees.
-    fn change(&mut self, change: impl FnOnce(&mut Input)) -> bool {
-        let mut candidate = self.input.clone();
-        change(&mut candidate);
+    /// Keeps an input if it is another one and still disagrees.
+    fn keep(&mut self, candidate: Input) -> bool {
         let keeps = candidate != self.input && (self.disagrees)(&candidate);
         if keeps {
             self.input = candidate;
@@ -61,32 +218,76 @@ impl<F: Fn(&Input) -> bool> Search<F> {
         keeps
     }
 
+    /// Keeps a change if the input still disagrees.
+    fn change(&mut self, change: impl FnOnce(&mut Input)) -> bool {
+        let mut candidate = self.input.clone();
+        change(&mut candidate);
+        self.keep(candidate)
+    }
+
     fn bytes(&mut self, part: Part) -> &[u8] {
         part(&mut self.input).map_or(&[], |bytes| bytes)
     }
 
-    /// Leaves runs of bytes out, the long ones first.
-    fn shorter(&mut self, part: Part) {
-        let mut run = self.bytes(part).len();
+    /// Tries runs of so many things, the long ones first; a try says whether the run is gone.
+    fn runs(&mut self, count: usize, mut gone: impl FnMut(&mut Self, Range<usize>) -> bool) {
+        let (mut run, mut count) = (count, count);
         while run > 0 {
-            let mut at = 0;
-            while at + run <= self.bytes(part).len() && self.in_time() {
-                let cut = |input: &mut Input| {
-                    if let Some(bytes) = part(input) {
-                        bytes.drain(at..at + run);
-                    }
-                };
-                if !self.change(cut) {
+            let (mut at, mut stayed) = (0, 0);
+            let most = match count {
+                0..=MANY => usize::MAX,
+                _ => tries(self.input.size()),
+            };
+            while at + run <= count && stayed < most && self.in_time() {
+                if gone(self, at..at + run) {
+                    count -= run;
+                } else {
                     at += run;
+                    stayed += 1;
                 }
             }
             run /= 2;
         }
     }
 
-    /// Makes single bytes smaller: none at all, without one of its bits, or one less.
+    fn fewer(&mut self, things: &Things) {
+        let count = (things.count)(&self.input).unwrap_or(0);
+        self.runs(count, |search, run| {
+            let fewer = (things.without)(&search.input, run);
+            fewer.is_some_and(|fewer| search.keep(fewer))
+        });
+    }
+
+    /// Leaves runs of bytes out.
+    fn shorter(&mut self, part: Part) {
+        let count = self.bytes(part).len();
+        self.runs(count, |search, run| {
+            search.change(|input| {
+                if let Some(bytes) = part(input) {
+                    bytes.drain(run);
+                }
+            })
+        });
+    }
+
+    /// Makes bytes smaller: of many, runs of them nothing; and single ones nothing at all, without
+    /// one of its bits, or one less.
     fn lower(&mut self, part: Part) {
-        for at in 0..self.bytes(part).len() {
+        let length = self.bytes(part).len();
+        if length > MANY {
+            self.runs(length, |search, run| {
+                if search.bytes(part)[run.clone()].iter().any(|&byte| byte > 0) {
+                    search.change(|input| {
+                        if let Some(bytes) = part(input) {
+                            bytes[run].fill(0);
+                        }
+                    });
+                }
+                false
+            });
+        }
+        let singly = if length > MANY { FIRST } else { length };
+        for at in 0..singly {
             let byte = self.bytes(part)[at];
             let without = (0..8).map(|bit| byte & !(1 << bit));
             let smaller = [0].into_iter().chain(without).chain(byte.checked_sub(1));

@@ -1,5 +1,6 @@
 //! What a run has seen, counted.
 
+use crate::LARGE;
 use std::collections::BTreeMap;
 use std::fmt;
 
@@ -40,6 +41,14 @@ pub struct Tally {
     pub bad_ends: u64,
     /// Dictionaries and objects over the limit (10, 20), which the Rust takes.
     pub over_limit: u64,
+    /// Of the dictionaries that both accept, the large ones.
+    pub large_dictionaries: u64,
+    /// Of the dictionaries that both refuse, the large ones.
+    pub large_dictionaries_refused: u64,
+    /// Large objects that agree: as they are, or by a copy with other children.
+    pub large_objects: u64,
+    /// Of the objects that both refuse, the large ones.
+    pub large_objects_refused: u64,
     /// Values of another basic type (22), which the Rust's `VariantObject` does not look at.
     pub other_type: u64,
 }
@@ -93,6 +102,11 @@ impl fmt::Display for Tally {
         )?;
         line("the same names asked together", self.together)?;
         line("names whose ends fall or pass the run, 45", self.bad_ends)?;
+        let large = format!("of more than {} bytes: dictionaries", grouped(LARGE as u64));
+        line(&format!("{large} accepted"), self.large_dictionaries)?;
+        line("  dictionaries refused", self.large_dictionaries_refused)?;
+        line("  objects accepted", self.large_objects)?;
+        line("  objects refused", self.large_objects_refused)?;
         line(
             "outside the domain: over the limit, 10 and 20",
             self.over_limit,

@@ -4,7 +4,7 @@
 use differential::encode::{ObjectShape, object as object_of, plain_object};
 use differential::exhaustive::{all_bytes, each};
 use differential::fixed::SORTED;
-use lichenhusk::Refusal;
+use lichenhusk::{LIMIT, Refusal};
 use parquet_variant::{MAX_NESTING_DEPTH, VariantMetadata, VariantObject, VariantPath};
 use std::panic::catch_unwind;
 use std::time::{Duration, Instant};
@@ -82,7 +82,7 @@ fn children_that_are_no_values() {
 /// 10 and 20: the Rust has no limit of length.
 #[test]
 fn long_buffers() {
-    let padded = |bytes: &[u8]| [bytes, &vec![0; 65_537 - bytes.len()]].concat();
+    let padded = |bytes: &[u8]| [bytes, &vec![0; LIMIT + 1 - bytes.len()]].concat();
     let (dict, object) = (padded(SORTED), padded(&[2, 0, 0]));
     assert!(rust_accepts(&dict, &object));
     assert_eq!(

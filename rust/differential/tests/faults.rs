@@ -5,7 +5,9 @@ use differential::compare::Disagreement;
 use differential::faults::{ALL, Fault, Faulty};
 use differential::ours::Archive;
 use differential::run::{Settings, disagreement, run};
-use differential::{Input, fixed};
+use differential::{Input, LARGE, fixed, large};
+use lichenhusk::LIMIT;
+use std::collections::BTreeMap;
 use std::process::Command;
 use std::time::Duration;
 
@@ -14,9 +16,11 @@ fn small() -> Settings {
     Settings {
         seed: 7,
         generated: 4_000,
+        large: 8,
         every: 2,
         telling: 5,
         limit: Duration::from_secs(600),
+        patience: Duration::from_secs(1),
     }
 }
 
@@ -39,15 +43,29 @@ fn the_archive_passes() {
     assert!(outcome.tally.objects > 0 && outcome.tally.found > 0);
 }
 
+/// How many bytes the input that tells a fault has at most: few, unless the fault is one of length
+/// or of a number's bytes.
+fn most(fault: Fault) -> usize {
+    let few = 24;
+    let entries = 1 << 16;
+    match fault {
+        Fault::NoLimit | Fault::NoObjectLimit => LIMIT + 1 + few,
+        Fault::OldLimit | Fault::OldObjectLimit => LARGE + 1 + few,
+        Fault::PlacesOfTwoBytes => (1 << 16) + few,
+        Fault::PlacesOfThreeBytes => (1 << 24) + few,
+        // An offset of three bytes each, and names of none.
+        Fault::CountsOfTwoBytes | Fault::IdsOfTwoBytes => 3 * entries + few,
+        // With names, and as many fields: an id and an offset each.
+        Fault::FieldsOfTwoBytes => (4 + 6 + 3 + 2) * entries + 2 * few,
+        _ => few,
+    }
+}
+
 #[test]
 fn each_fault_is_told_by_a_small_input() {
     for fault in ALL {
         let (input, found) = told(fault);
-        let most = match fault {
-            Fault::NoLimit => 65_537,
-            _ => 24,
-        };
-        assert!(input.size() <= most, "{fault:?}: {input:?}");
+        assert!(input.size() <= most(fault), "{fault:?}: {}", input.size());
         assert_eq!(disagreement(&Archive, &input), None, "{fault:?}");
         assert_ne!(found.ours, found.theirs, "{fault:?}");
     }
@@ -146,18 +164,34 @@ fn the_command_refuses_other_words() {
     }
 }
 
-/// The inputs about the limit have the lengths that they are for, on both sides of it.
-#[test]
-fn inputs_at_the_limit() {
-    for length in [65_535, 65_536, 65_537] {
-        let inputs = fixed::inputs();
-        let dictionaries = inputs.iter().filter(|input| input.dict.len() == length);
-        assert_eq!(dictionaries.count(), 14, "{length}");
-        let objects = inputs.iter().filter_map(|input| input.object.as_ref());
-        assert_eq!(
-            objects.filter(|object| object.len() == length).count(),
-            7,
-            "{length}"
-        );
+/// How many dictionaries and how many objects of inputs have each length.
+fn lengths(inputs: impl Iterator<Item = Input>) -> [BTreeMap<usize, usize>; 2] {
+    let mut lengths = [BTreeMap::new(), BTreeMap::new()];
+    for input in inputs {
+        *lengths[0].entry(input.dict.len()).or_default() += 1;
+        let object = input.object.unwrap_or_default();
+        *lengths[1].entry(object.len()).or_default() += 1;
     }
+    lengths
+}
+
+/// The inputs about the limits have the lengths that they are for, on both sides of them.
+#[test]
+fn inputs_at_the_limits() {
+    let [dictionaries, objects] = lengths(fixed::inputs().into_iter());
+    for length in [65_535, 65_536, 65_537] {
+        assert_eq!(dictionaries[&length], 14, "{length}");
+        assert_eq!(objects[&length], 7, "{length}");
+    }
+    let [dictionaries, objects] = lengths(large::fixed());
+    for length in [16_777_215, 16_777_217] {
+        assert_eq!(dictionaries[&length], 10, "{length}");
+        assert_eq!(objects[&length], 6, "{length}");
+    }
+    assert_eq!(
+        dictionaries[&LIMIT],
+        10 + 16,
+        "with numbers past what there is"
+    );
+    assert_eq!(objects[&LIMIT], 6 + 2 + 18, "with the last children, too");
 }

@@ -7,8 +7,9 @@ use differential::many::bad_ends;
 use differential::original::{traced, traced_start};
 use differential::random::Random;
 use differential::reading::{DictionaryParts, ObjectParts};
-use differential::{Input, damage, fixed, generate, hex, shrink};
+use differential::{Input, LARGE, damage, fixed, generate, hex, large, shrink};
 use parquet_variant::{VariantMetadata, VariantObject};
+use std::time::Duration;
 
 #[test]
 fn each_string_once_in_order() {
@@ -52,6 +53,28 @@ fn the_empty_string_too() {
     assert_eq!(count, 1);
 }
 
+/// More than it takes.
+const PATIENCE: Duration = Duration::from_secs(60);
+
+/// Of many entries and fields, one is left with its name and its child: what counts the others goes
+/// with them. (Of the object's header, the Rust does not ask that it says object.)
+#[test]
+fn shrinks_what_is_large() {
+    let object = fixed::object_shape(3, 4, true);
+    let input = fixed::all_fields(&fixed::numbered(70_000), fixed::shape(3, true), object);
+    let has_field = |input: &Input| {
+        let metadata = VariantMetadata::try_new(&input.dict).ok();
+        let object = input.object.as_deref().unwrap_or_default();
+        let theirs = metadata.and_then(|metadata| VariantObject::try_new(metadata, object).ok());
+        theirs.is_some_and(|theirs| theirs.get("00ffff").is_some())
+    };
+    let small = shrink::smallest(input, PATIENCE, has_field);
+    let dict = encode::dictionary(&[b"00ffff".to_vec()], fixed::shape(3, false));
+    let mut object = encode::object(&[0], &[0, 1], &[0], object);
+    object[0] &= !3;
+    assert_eq!(small, Input::object(dict, object));
+}
+
 #[test]
 fn shrinks_to_what_matters() {
     let input = Input {
@@ -60,7 +83,7 @@ fn shrinks_to_what_matters() {
         query: Some(vec![1, 2, 3]),
     };
     let has_z = |input: &Input| input.dict.contains(&b'Z') && input.object.is_some();
-    let small = shrink::smallest(input, has_z);
+    let small = shrink::smallest(input, PATIENCE, has_z);
     assert_eq!(small, Input::object(b"Z".to_vec(), vec![]));
 }
 
@@ -133,6 +156,26 @@ fn good_inputs_of_every_shape() {
     }
     assert_eq!(headers.len(), 4 * 2 * 4 * 4 * 2);
     assert!(accepted > 3000, "{accepted}");
+}
+
+/// So do larger messages: each has a large part, and most are accepted.
+#[test]
+fn larger_messages() {
+    let mut random = Random::seeded(3);
+    let mut again = Random::seeded(3);
+    let mut parts = std::collections::BTreeSet::new();
+    let mut accepted = 0;
+    for _ in 0..30 {
+        let input = large::good(&mut random);
+        assert_eq!(input, large::good(&mut again));
+        let object = input.object.unwrap();
+        parts.insert((input.dict.len() > LARGE, object.len() > LARGE));
+        let metadata = VariantMetadata::try_new(&input.dict).expect("a good dictionary");
+        accepted += usize::from(VariantObject::try_new(metadata, &object).is_ok());
+    }
+    assert!(!parts.contains(&(false, false)));
+    assert_eq!(parts.len(), 3);
+    assert!(accepted > 15, "{accepted}");
 }
 
 #[test]
