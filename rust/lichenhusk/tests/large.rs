@@ -1,5 +1,5 @@
-//! Larger messages: every call on bytes up to the limit, places that are the limit, and numbers of
-//! more than two bytes. (What is over the limit, `numbers.rs` has.)
+//! Larger messages: every call on both sides of the limit, places that are the limit, and numbers
+//! of more than two bytes.
 
 mod common;
 
@@ -48,6 +48,21 @@ fn every_call_reads_up_to_the_limit() {
         assert_eq!(answers(&hex(D), &object), short, "{length}");
         assert_eq!(answers(&dict, &object), short, "{length}");
     }
+}
+
+#[test]
+fn no_call_reads_more() {
+    let (dict, object) = (padded(D, LIMIT + 1), padded(P, LIMIT + 1));
+    let all_are = |answers: &[String], refusal: Refusal| {
+        let begins = format!("Err({refusal:?})");
+        assert!(answers.iter().all(|answer| answer.starts_with(&begins)));
+    };
+    all_are(&answers(&dict, &hex(P)), Refusal::DictionaryTooLong);
+    all_are(&answers(&dict, &object), Refusal::DictionaryTooLong);
+    let refused = answers(&hex(D), &object);
+    let (of_dictionary, of_object) = refused.split_at(2);
+    assert_eq!(of_dictionary, &answers(&hex(D), &hex(P))[..2]);
+    all_are(of_object, Refusal::ObjectTooLong);
 }
 
 /// Appends numbers of so many bytes each.

@@ -223,6 +223,10 @@ fn each_says_what_it_is() {
         assert!(seen.insert(words.to_string()), "{text}");
     }
     assert_eq!(seen.len(), 23);
+    for refusal in [Refusal::DictionaryTooLong, Refusal::ObjectTooLong] {
+        let text = refusal.to_string();
+        assert!(text.ends_with("is longer than 16777216 bytes"), "{text}");
+    }
 }
 
 #[test]
