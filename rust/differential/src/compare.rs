@@ -17,12 +17,12 @@
 //! listing's; words after a listing, and all words under a refusal, stay. Of many names at once,
 //! [`many`](crate::many) says the rest.
 //!
-//! Of larger inputs less is asked by single questions, each of which is a whole check: see
-//! [`asked`]. An object of more than [`LISTED`] fields is not listed, since the time of that grows
-//! with the square of their number; instead the names of all fields are looked for in one call,
-//! which must find each of them in its order, with the field's own id, and its start is what is
-//! compared where the listing's is otherwise. (In too little room a listing is asked for all the
-//! same: it is refused before it begins.)
+//! Of larger inputs fewer entries and fields are asked for one by one, since each such question is a
+//! whole check. An object of more than 8,192 fields is not listed, since the time of that grows with
+//! the square of their number; instead the names of all fields are looked for in one call, which
+//! must find each of them in its order, with the field's own id, and its start is what is compared
+//! where the listing's is otherwise. So every field is compared all the same, but for its span. (In
+//! too little room a listing is asked for all the same: it is refused before it begins.)
 
 use crate::many::Many;
 use crate::original::{
@@ -38,10 +38,10 @@ use parquet_variant::{Variant, VariantMetadata, VariantObject};
 use std::fmt::{self, Debug};
 
 /// How many entries, or fields, of an input of so many bytes are asked for by name or number; of
-/// more, some.
+/// more, some. An input without a large part is asked as much as ever.
 fn asked(size: usize) -> usize {
     match size {
-        _ if size <= LARGE => 24,
+        _ if size <= 2 * LARGE => 24,
         _ if size <= 16 * LARGE => 4,
         _ => 1,
     }

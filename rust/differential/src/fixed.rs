@@ -133,7 +133,7 @@ fn widths(length: usize) -> impl Iterator<Item = usize> {
     least_width(length - 5)..=4
 }
 
-/// A dictionary with an object that has the first and the last entry, as far as they go.
+/// A dictionary with an object that has its first two entries, as far as they go.
 fn over_it(dict: Vec<u8>) -> Input {
     let null = vec![0];
     let object = encode::plain_object(&[0, 1], &[null.clone(), null]);

@@ -244,7 +244,7 @@ fn long_children(random: &mut Random, names: &[Vec<u8>], size: usize) -> Vec<u8>
         let mut sizes = once(size).chain(repeat(size / 8));
         let child = |random: &mut Random| long_child(random, sizes.next().unwrap_or(0));
         let object = outer_object(random, names, 6, child);
-        // One that came to have no fields is not large.
+        // It may have come to have no field, or a string of fewer bytes.
         if object.len() > LARGE {
             return object;
         }

@@ -270,8 +270,7 @@ impl<F: Fn(&Input) -> bool> Search<F> {
         });
     }
 
-    /// Makes bytes smaller: of many, runs of them nothing; and single ones nothing at all, without
-    /// one of its bits, or one less.
+    /// Makes bytes smaller: 0, without one of their bits, or one less; of many, first runs of them 0.
     fn lower(&mut self, part: Part) {
         let length = self.bytes(part).len();
         if length > MANY {

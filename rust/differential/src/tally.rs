@@ -27,7 +27,7 @@ pub struct Tally {
     pub over_refused: u64,
     /// Copies with other children whose verdicts agree.
     pub traced: u64,
-    /// Fields whose ids, starts and spans agree.
+    /// Fields whose ids and starts agree and, where they are listed, spans.
     pub fields: u64,
     /// Lookups that found what `get` yields.
     pub found: u64,
@@ -93,7 +93,7 @@ impl fmt::Display for Tally {
         }
         line("objects over a refused dictionary", self.over_refused)?;
         line("objects with other children, the layer alone", self.traced)?;
-        line("fields listed", self.fields)?;
+        line("fields listed, of very many looked up", self.fields)?;
         line("lookups found", self.found)?;
         line("lookups absent", self.absent)?;
         line(
