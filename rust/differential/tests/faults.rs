@@ -184,7 +184,7 @@ fn inputs_at_the_limits() {
         assert_eq!(objects[&length], 7, "{length}");
     }
     let [dictionaries, objects] = lengths(large::fixed());
-    for length in [16_777_215, 16_777_217] {
+    for length in [LIMIT - 1, LIMIT + 1] {
         assert_eq!(dictionaries[&length], 10, "{length}");
         assert_eq!(objects[&length], 6, "{length}");
     }
