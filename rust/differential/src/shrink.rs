@@ -151,10 +151,11 @@ impl Apart {
 
     /// Without the fields of some ids, where the entries of these are left out.
     fn without_ids(mut self, run: Range<usize>) -> Apart {
-        let stays: Vec<bool> = self.ids.iter().map(|id| !run.contains(id)).collect();
-        let mut field = stays.iter().chain([&true]);
-        self.offsets.retain(|_| *field.next().unwrap_or(&true));
-        self.ids.retain(|id| !run.contains(id));
+        let stays = |id: &usize| !run.contains(id);
+        let mut ids = self.ids.iter();
+        // The last offset is no field's.
+        self.offsets.retain(|_| ids.next().is_none_or(stays));
+        self.ids.retain(stays);
         for id in &mut self.ids {
             *id -= if *id < run.end { 0 } else { run.len() };
         }
