@@ -74,6 +74,8 @@ pub enum Fault {
     CountsOfTwoBytes,
     /// Gives the field in two bytes.
     FieldsOfTwoBytes,
+    /// Gives the fields of many names in two bytes.
+    RowsOfTwoBytes,
     /// Gives the id in two bytes.
     IdsOfTwoBytes,
     /// Gives starts and ends in two bytes.
@@ -119,7 +121,7 @@ pub enum Fault {
 }
 
 /// Every fault.
-pub const ALL: [Fault; 54] = [
+pub const ALL: [Fault; 55] = [
     Fault::AlwaysShort,
     Fault::AbsentIsFound,
     Fault::AlwaysAbsent,
@@ -153,6 +155,7 @@ pub const ALL: [Fault; 54] = [
     Fault::OldObjectLimit,
     Fault::CountsOfTwoBytes,
     Fault::FieldsOfTwoBytes,
+    Fault::RowsOfTwoBytes,
     Fault::IdsOfTwoBytes,
     Fault::PlacesOfTwoBytes,
     Fault::PlacesOfThreeBytes,
@@ -300,6 +303,9 @@ impl<R: Reader> Faulty<R> {
         match self.fault {
             Fault::RowsBackwards => rows[..names].reverse(),
             Fault::FirstNameTwice if names > 1 => rows[1] = rows[0],
+            Fault::RowsOfTwoBytes => rows[..names]
+                .iter_mut()
+                .for_each(|[_, field, ..]| *field &= TWO_BYTES as u32),
             Fault::LeavesAbsentRows => {
                 let (before, _) = lent.as_chunks();
                 let both = rows[..names].iter_mut().zip(before);

@@ -56,7 +56,7 @@ fn most(fault: Fault) -> usize {
         // An offset of three bytes each, and names of none.
         Fault::CountsOfTwoBytes | Fault::IdsOfTwoBytes => 3 * entries + few,
         // With names, and as many fields: an id and an offset each.
-        Fault::FieldsOfTwoBytes => (4 + 6 + 3 + 2) * entries + 2 * few,
+        Fault::FieldsOfTwoBytes | Fault::RowsOfTwoBytes => (4 + 6 + 3 + 2) * entries + 2 * few,
         _ => few,
     }
 }
@@ -80,6 +80,13 @@ fn every_fault_is_tried() {
         );
     }
     assert_eq!(Fault::LastBadEnd as usize, ALL.len() - 1);
+}
+
+/// Of very many fields, the lookup of all their names is told, which stands for the listing.
+#[test]
+fn a_field_among_very_many() {
+    let (_, found) = told(Fault::RowsOfTwoBytes);
+    assert_eq!(found.asked, "among all fields' names, a field");
 }
 
 /// What a wrong reader finds for an absent name, to the byte.
