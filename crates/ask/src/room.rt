@@ -13,12 +13,11 @@ pub fn longer_than(most: usize, of_these: &[u8]) -> bool {
     io::write_all(STDOUT_FILENO, b", all that this program has room for")
 }
 
-// The same, and what to use instead.
+// The same, and what to use instead. How much that reads, its own papers say: programs are not to change with it.
 pub fn use_library(most: usize, of_these: &[u8]) -> bool {
     longer_than(most, of_these);
-    say(b"; the library reads up to ", metadata::LIMIT);
     io::write_all(
         STDOUT_FILENO,
-        b" bytes (include/lichenhusk.h, rust/lichenhusk)",
+        b"; for more use the library, from C (include/lichenhusk.h) or from Rust (rust/lichenhusk)",
     )
 }

@@ -90,7 +90,7 @@ fn a_name_that_ends_with_the_longest_dictionary() {
         let (dict, start) = of_one_long_name(LIMIT, width);
         let whole = Dictionary {
             entries: 2,
-            end: 16_777_216,
+            end: LIMIT,
         };
         assert_eq!(lichenhusk::dictionary(&dict), Ok(whole), "{width}");
         let name = lichenhusk::name(&dict, 1).unwrap();
@@ -141,16 +141,16 @@ fn children_that_end_with_the_longest_object() {
         let layer = Layer {
             fields: 2,
             region: 4 + 3 * width,
-            end: 16_777_216,
+            end: LIMIT,
         };
         assert_eq!(lichenhusk::layer(&dict, &object), Ok(layer), "{width}");
         let last = |field: usize, start| Found {
             field,
             id: field as u32,
             start,
-            end: 16_777_216,
+            end: LIMIT,
         };
-        let (flow, roll) = (last(0, 16_777_216), last(1, 16_777_215));
+        let (flow, roll) = (last(0, LIMIT), last(1, LIMIT - 1));
         assert_eq!(lichenhusk::lookup(&dict, &object, b"flow"), Ok(Some(flow)));
         assert_eq!(lichenhusk::lookup(&dict, &object, b"roll"), Ok(Some(roll)));
         assert_eq!(
@@ -163,7 +163,7 @@ fn children_that_end_with_the_longest_object() {
         assert_eq!((flow, roll), (Some(&[][..]), Some(&object[LIMIT - 1..])));
         let mut words = [7; 6];
         assert_eq!(lichenhusk::list_into(&dict, &object, &mut words), Ok(layer));
-        assert_eq!(words, [0, 16_777_216, 0, 1, 16_777_215, 1]);
+        assert_eq!(words, [0, LIMIT as u32, 0, 1, LIMIT as u32 - 1, 1]);
         assert_eq!(
             lichenhusk::layer(&dict, &object[..LIMIT - 1]),
             Err(Refusal::ObjectShort)
