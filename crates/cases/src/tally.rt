@@ -1,5 +1,6 @@
 // How many cases there were, and how many were not as expected.
 ghost use Rattle.io.specs.Counts.{Counts};
+ghost use Rattle.cases.specs.Counting.{More, Judged};
 
 pub struct Tally {
     pub cases: usize,
@@ -10,15 +11,19 @@ pub fn none() -> Tally {
     Tally { cases: 0, wrong: 0 }
 }
 
-fn one_more(n: usize) -> usize {
+fn one_more(n: usize) -> usize
+    ensures { λ r. ⌜ More n r ⌝ }
+{
     if n < 0xFFFF_FFFF {
         return n + 1;
     }
     n
 }
 
-// One case more.
-pub fn with(t: Tally, good: bool) -> Tally {
+// One case more, and one that is wrong where it was not good.
+pub fn with(t: Tally, good: bool) -> Tally
+    ensures { λ r. ⌜ More (t .cases) (r .cases) × Judged good (t .wrong) (r .wrong) ⌝ }
+{
     let cases = one_more(t.cases);
     if good {
         return Tally {

@@ -86,8 +86,10 @@ pub not-the-first : (all : (d o names ends words : List ℕ) → Lookups) (after
 not-the-first all after meets wrong =
     let ends : List ℕ = 4 ∷ 7 ∷ 11 ∷ [] in
     let is = ap (at 19) worked in
-    let left : after D P run ends (replicate 16 9) ≡ 0 ∷ 0 ∷ 0 ∷ 8 ∷ 10 ∷ 1 ∷ 0 ∷ 0 ∷ 0 ∷ 0 ∷ 0 ∷ 1 ∷ 1 ∷ 7 ∷ 10 ∷ 9 ∷ [] = meets D P run ends (replicate 16 9) .leaves ∙ cc in
-    let same = rw left at (wrong D P run ends (replicate 16 9)) in
+    let lent : List ℕ = replicate 16 9 in
+    let rows : List ℕ = 0 ∷ 0 ∷ 0 ∷ 8 ∷ 10 ∷ 1 ∷ 0 ∷ 0 ∷ 0 ∷ 0 ∷ 0 ∷ 1 ∷ 1 ∷ 7 ∷ 10 ∷ 9 ∷ [] in
+    let left : after D P run ends lent ≡ rows = meets D P run ends lent .leaves ∙ cc in
+    let same = rw left at (wrong D P run ends lent) in
     let z : _≡_ {A = ℕ} 0 1 = cc in omega arith
 
 -- one that hands back the whole object as child

@@ -9,7 +9,8 @@ use Rattle.metadata.specs.declared.Refusal.the-variants.{Empty, Short}
 use Rattle.metadata.specs.declared.Head.{Head}
 use Rattle.metadata.specs.declared.Head.the-variants as head
 use Rattle.metadata.specs.Limits.{limit}
-use Rattle.metadata.specs.Dictionary.{version, sorted, width, count, offset, start, end, region, name, headRules, regionRules, entryRules, checks, checksWithin, verdict, verdictWithin, nameAt, nameAtWithin}
+use Rattle.metadata.specs.Dictionary.{version, sorted, width, count, offset, start, end, region, name, headRules, regionRules, entryRules}
+use Rattle.metadata.specs.Dictionary.{checks, checksWithin, verdict, verdictWithin, nameAt, nameAtWithin}
 use Rattle.metadata.specs.Steps.{CheckedOf}
 use Rattle.metadata.proofs.Laws.{count-before, start-before, offset-inside}
 use Rattle.metadata.proofs.Means.{good}

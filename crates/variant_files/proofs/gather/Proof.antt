@@ -8,7 +8,8 @@ use Rattle.variant_files.proofs.gather.Statement.{statement}
 use Rattle.variant_files.proofs.gather.Tie as tie
 
 abbrev Inv-loop : tie.InvT-loop
-Inv-loop line from run₀ ends₀ next₀ len₀ count₀ run ends next len count = (length run ≡ length run₀) × (length ends ≡ length ends₀) × (len ≤ length run) × (count ≤ length ends)
+Inv-loop line from run₀ ends₀ next₀ len₀ count₀ run ends next len count =
+    (length run ≡ length run₀) × (length ends ≡ length ends₀) × (len ≤ length run) × (count ≤ length ends)
 
 abbrev μ-loop : tie.MeasureT-loop
 μ-loop line from run₀ ends₀ next₀ len₀ count₀ run ends next len count = length ends₀ - count
