@@ -33,12 +33,12 @@ pub data NameSays (d : List ℕ) (i : ℕ) : List ℕ → Type 0 where
 
 pub data LayerSays (d o : List ℕ) : List ℕ → Type 0 where
   accepted : {n v e : ℕ} → Layer d o n v e → LayerSays d o (0 ∷ n ∷ 0 ∷ v ∷ e ∷ 0 ∷ [])
-  refused : {c p : ℕ} → 10 ≤ c → c < 28 → Refusal d o c p → LayerSays d o (refusalWords c p)
+  refused : {c p : ℕ} → 10 ≤ c → c < 29 → Refusal d o c p → LayerSays d o (refusalWords c p)
 
 pub data LookupSays (d o q : List ℕ) : List ℕ → Type 0 where
   found : {k i a e : ℕ} → Found d o q k i a e → LookupSays d o q (0 ∷ k ∷ i ∷ a ∷ e ∷ 0 ∷ [])
   absent : Absent d o q → LookupSays d o q (refusalWords 1 0)
-  refused : {c p : ℕ} → 10 ≤ c → c < 28 → Refusal d o c p → LookupSays d o q (refusalWords c p)
+  refused : {c p : ℕ} → 10 ≤ c → c < 29 → Refusal d o c p → LookupSays d o q (refusalWords c p)
 
 -- of a name call: the dictionary's bytes from start to end are q
 pub data Spelled (d q : List ℕ) : List ℕ → Type 0 where
@@ -47,14 +47,14 @@ pub data Spelled (d q : List ℕ) : List ℕ → Type 0 where
 pub data ListSays (d o words : List ℕ) : List ℕ → Type 0 where
   listed : {n v e : ℕ} → Listed d o words n v e → ListSays d o words (0 ∷ n ∷ 0 ∷ v ∷ e ∷ 0 ∷ [])
   no-room : NoRoom d o words → ListSays d o words (refusalWords 41 0)
-  refused : {c p : ℕ} → 10 ≤ c → c < 28 → Refusal d o c p → ListSays d o words (refusalWords c p)
+  refused : {c p : ℕ} → 10 ≤ c → c < 29 → Refusal d o c p → ListSays d o words (refusalWords c p)
 
 -- of many names; 45 is checked first
 pub data AllSays (d o names ends words : List ℕ) : List ℕ → Type 0 where
   answered : {n v e : ℕ} → Answered d o names ends words n v e → AllSays d o names ends words (0 ∷ n ∷ 0 ∷ v ∷ e ∷ 0 ∷ [])
   bad-end : {k : ℕ} → BadEnd names ends k → AllSays d o names ends words (refusalWords 45 k)
   no-room : many.NoRoom d o names ends words → AllSays d o names ends words (refusalWords 41 0)
-  refused : {c p : ℕ} → 10 ≤ c → c < 28 → RefusedAfter d o names ends c p → AllSays d o names ends words (refusalWords c p)
+  refused : {c p : ℕ} → 10 ≤ c → c < 29 → RefusedAfter d o names ends c p → AllSays d o names ends words (refusalWords c p)
 
 -- WHAT A CALL TELLS
 

@@ -79,8 +79,8 @@ starred =
       strip D P roll (replicate 24 0xEE),
       leaves (0 ∷ 0 ∷ 0 ∷ 0 ∷ 1 ∷ 0 ∷ 0 ∷ 0 ∷ 1 ∷ 0 ∷ 0 ∷ 0 ∷ 7 ∷ 0 ∷ 0 ∷ 0 ∷ 0x0A ∷ 0 ∷ 0 ∷ 0 ∷ 0 ∷ 0 ∷ 0 ∷ 0 ∷ []),
     )
-    ∷ (layer D (0x02 ∷ 0x01 ∷ 0x00 ∷ 0x00 ∷ 0x00 ∷ []), answers (accept (1 ∷ 5 ∷ 5 ∷ [])))
-    ∷ (lookup D (0x02 ∷ 0x01 ∷ 0x00 ∷ 0x00 ∷ 0x00 ∷ []) flow, answers (accept (0 ∷ 0 ∷ 5 ∷ 5 ∷ [])))
+    ∷ (layer D (0x02 ∷ 0x01 ∷ 0x00 ∷ 0x00 ∷ 0x00 ∷ []), answers (refuse 28 0))
+    ∷ (lookup D (0x02 ∷ 0x01 ∷ 0x00 ∷ 0x00 ∷ 0x00 ∷ []) flow, answers (refuse 28 0))
     ∷ (layer D (0x02 ∷ 0x01 ∷ 0x02 ∷ 0x00 ∷ 0x00 ∷ []), answers (refuse 25 0))
     ∷ (layer D (0x02 ∷ 0x02 ∷ 0x01 ∷ 0x00 ∷ 0x00 ∷ 0x00 ∷ 0x00 ∷ []), answers (refuse 26 1))
     ∷ (layer D (0x02 ∷ 0x01 ∷ 0x00 ∷ 0x02 ∷ 0x01 ∷ 0x00 ∷ []), answers (refuse 27 0))

@@ -6,11 +6,11 @@ use Rattle.object.specs.Object.{count, offset, start, end, headRules, na
 use Rattle.object.specs.Meaning.{Layer}
 use Rattle.object.proofs.Laws.{count-below, start-before, end-is}
 
--- the layer's numbers are the dictionary's, 10 to 19, and 20 to 27, so that none is taken for another answer's
+-- the layer's numbers are the dictionary's, 10 to 19, and 20 to 28, so that none is taken for another answer's
 abbrev Ours : ℕ → ℕ → Type 0
-Ours c p = (10 ≤ c) × (c < 28) × (p < 4294967296)
+Ours c p = (10 ≤ c) × (c < 29) × (p < 4294967296)
 
-pub checks-code : (d o : List ℕ) {c p : ℕ} → checks d o ≡ stop c p → (10 ≤ c) × (c < 28) × (p < 4294967296)
+pub checks-code : (d o : List ℕ) {c p : ℕ} → checks d o ≡ stop c p → (10 ≤ c) × (c < 29) × (p < 4294967296)
 unfolding checksWithin nameRules offsetRules u32Max
 checks-code d o e =
     meant-stop

@@ -95,4 +95,4 @@ module _ (d o : List ℕ) where
 
     pub in-region : (k : ℕ) → k < count o → InRegion o k
     unfolding offsetRules
-    in-region k p = each-passed (offsetRules o) (count o) (passes e .offsets) k p .0
+    in-region k p = each-passed (offsetRules o) (count o) (passes e .offsets) k p .1 .0

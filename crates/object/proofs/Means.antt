@@ -8,7 +8,7 @@ use Rattle.metadata.specs.Meaning as dictionary-meaning
 use Rattle.metadata.proofs.Means as dictionary-means
 use Rattle.object.specs.Object.{count, start, end, headRules, nameRules, offsetRules, checks, checksWithin}
 use Rattle.object.specs.Meaning.{Sized, Typed, Counted, Placed, Headed, GoodName, Named, InRegion, Layer, Refusal}
-use Rattle.object.specs.Meaning.Refusal.{of-dictionary, too-long, empty, other-type, count-cut, offsets-sum, start-sum, start-short, end-sum, end-short, no-entry, not-above, past-region}
+use Rattle.object.specs.Meaning.Refusal.{of-dictionary, too-long, empty, other-type, count-cut, offsets-sum, start-sum, start-short, end-sum, end-short, no-entry, not-above, past-region, empty-child}
 
 module _ (d o : List ℕ) where
   -- THE HEADER
@@ -53,17 +53,19 @@ module _ (d o : List ℕ) where
   -- A FIELD'S OFFSET
   passed-inside : (k : ℕ) → Passed (offsetRules o k) → InRegion o k
   unfolding offsetRules
-  passed-inside k h = h .0
+  passed-inside k h = h .1 .0
 
   pub inside-passed : (k : ℕ) → InRegion o k → Passed (offsetRules o k)
   unfolding offsetRules
-  inside-passed k i = i & tt
+  inside-passed k i = omega arith & i & tt
 
   offsets-mean : Named d o → Meant (Layer d o (count o) (start o) (end o)) (Refusal d o) (first (each (offsetRules o) (count o)))
   unfolding offsetRules
   offsets-mean n =
       meant-map (λ all. record { named = n; offsets = λ k q. passed-inside k (all k q); counts = refl; starts = refl; ends = refl }) (λ c p b. b)
-      (by-each (Refusal d o) (offsetRules o) (count o) λ k q all. past-region n q (λ j r. passed-inside j (all j r)) & λ _. tt)
+      (by-each (Refusal d o) (offsetRules o) (count o) λ k q all.
+      let before : (j : ℕ) → j < k → InRegion o j = λ j r. passed-inside j (all j r) in
+      past-region n q before & λ inside. (λ at. empty-child n q before (omega arith)) & λ _. tt)
 
   -- ALL CHECKS
   pub checks-mean : Meant (Layer d o (count o) (start o) (end o)) (Refusal d o) (checks d o)

@@ -4,7 +4,7 @@ use Rattle.rules.proofs.Prelude.{_≡_, refl, sym, ap, ap₂, _∙_, cond, List
 use Rattle.metadata.specs.declared.Head.the-variants as dictionary-head
 use Rattle.metadata.proofs.Pinned.{refusalBy as dictionaryBy, refusal-back as dictionary-back, by-back, checked-pinned}
 use Rattle.object.specs.declared.Refusal.{Refusal}
-use Rattle.object.specs.declared.Refusal.the-variants.{Dictionary, TooLong, Empty, BasicType, Short, Sum, NoSuchEntry, NotAbove, Offset}
+use Rattle.object.specs.declared.Refusal.the-variants.{Dictionary, TooLong, Empty, BasicType, Short, Sum, NoSuchEntry, NotAbove, Offset, EmptyChild}
 use Rattle.object.specs.declared.Verdict.{Verdict}
 use Rattle.object.specs.declared.Verdict.the-variants as verdict
 use Rattle.object.specs.declared.Layer.{Layer}
@@ -27,7 +27,8 @@ refusalBy is other c p =
     (cond (eqb c 22) (is BasicType)
     (cond (eqb c 23) (is Short)
     (cond (eqb c 24) (is Sum)
-    (cond (eqb c 25) (is (NoSuchEntry p)) (cond (eqb c 26) (is (NotAbove p)) (cond (eqb c 27) (is (Offset p)) other))))))))
+    (cond (eqb c 25) (is (NoSuchEntry p))
+    (cond (eqb c 26) (is (NotAbove p)) (cond (eqb c 27) (is (Offset p)) (cond (eqb c 28) (is (EmptyChild p)) other)))))))))
     c p
 
 pub refusal-back : {A : Type 0} (is : Refusal → A) (other : A) (r : Refusal) → refusalBy is other (refusalNumber r) (refusalPlace r) ≡ is r
@@ -41,6 +42,7 @@ refusal-back is other Sum = refl
 refusal-back is other (NoSuchEntry k) = refl
 refusal-back is other (NotAbove k) = refl
 refusal-back is other (Offset k) = refl
+refusal-back is other (EmptyChild k) = refl
 
 pub refusal-injective : (r q : Refusal) → refusalNumber r ≡ refusalNumber q → refusalPlace r ≡ refusalPlace q → r ≡ q
 refusal-injective r q c p =

@@ -7,8 +7,8 @@ use Rattle.metadata.specs.Dictionary as dictionary
 use Rattle.metadata.proofs.Accepts as dictionary-accepts
 use Rattle.metadata.proofs.Refuses as dictionary-refuses
 use Rattle.object.specs.Object.{count, start, end, nameRules, offsetRules, checks, verdict, verdictWithin}
-use Rattle.object.specs.Meaning.{Counted, Placed, Headed, GoodName, Refusal}
-use Rattle.object.specs.Meaning.Refusal.{of-dictionary, too-long, empty, other-type, count-cut, offsets-sum, start-sum, start-short, end-sum, end-short, no-entry, not-above, past-region}
+use Rattle.object.specs.Meaning.{Counted, Placed, Headed, GoodName, Named, InRegion, Refusal}
+use Rattle.object.specs.Meaning.Refusal.{of-dictionary, too-long, empty, other-type, count-cut, offsets-sum, start-sum, start-short, end-sum, end-short, no-entry, not-above, past-region, empty-child}
 use Rattle.object.proofs.Laws.{by-dictionary, by-head, by-names}
 use Rattle.object.proofs.Means.{head-passed, good-passed, inside-passed, checks-mean}
 
@@ -26,6 +26,14 @@ module _ (d o : List ℕ) where
       (each-stop (nameRules d o) k (count o) (each-pass (nameRules d o) k (λ j r. good-passed d o j (before j r))) e q)
       ∙ stops _ refl
 
+  -- and so does the first whose offset is
+  by-offset : {k c p : ℕ} → Named d o → k < count o → ((j : ℕ) → j < k → InRegion o j) → first (offsetRules o k) ≡ stop c p → checks d o ≡ stop c p
+  by-offset {k} m q before e =
+      by-names d o (over-placed (m .headed .placed)) (head-passed d o (m .headed))
+      (each-pass (nameRules d o) (count o) (λ j r. good-passed d o j (m .names j r)))
+      ∙ goes _ refl
+      ∙ each-stop (offsetRules o) k (count o) (each-pass (offsetRules o) k (λ j r. inside-passed d o j (before j r))) e q
+
   -- each refusal that is due is given
   pub is-due : {c p : ℕ} → Refusal d o c p → checks d o ≡ stop c p
   unfolding nameRules offsetRules
@@ -41,11 +49,8 @@ module _ (d o : List ℕ) where
   is-due (end-short b f h) = by-head d o (over-placed b) (first-at 8 _ (omega arith))
   is-due (no-entry {k = k} h q g n) = by-name h q g (first-at 0 (nameRules d o k) n)
   is-due (not-above {k = k} h q g i z n) = by-name h q g (first-at 1 (nameRules d o k) (i & z & not-below _ _ n))
-  is-due (past-region {k = k} m q g n) =
-      by-names d o (over-placed (m .headed .placed)) (head-passed d o (m .headed))
-      (each-pass (nameRules d o) (count o) (λ j r. good-passed d o j (m .names j r)))
-      ∙ goes _ refl
-      ∙ each-stop (offsetRules o) k (count o) (each-pass (offsetRules o) k (λ j r. inside-passed d o j (g j r))) (first-at 0 (offsetRules o k) n) q
+  is-due (past-region {k = k} m q g n) = by-offset m q g (first-at 0 (offsetRules o k) n)
+  is-due (empty-child {k = k} m q g e) = by-offset m q g (first-at 1 (offsetRules o k) (omega arith))
 
 -- THE THEOREM
 pub refuses : (d o : List ℕ) (c p : ℕ) → (verdict d o ≡ refuse c p) ↔ Refusal d o c p

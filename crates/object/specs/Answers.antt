@@ -4,7 +4,7 @@ use Prim.Native.Nat.{ℕ}
 use Rattle.rules.specs.Rules.{Answer, refuse, accept}
 use Rattle.metadata.specs.Answers as dictionary
 use Rattle.object.specs.declared.Refusal.{Refusal}
-use Rattle.object.specs.declared.Refusal.the-variants.{Dictionary, TooLong, Empty, BasicType, Short, Sum, NoSuchEntry, NotAbove, Offset}
+use Rattle.object.specs.declared.Refusal.the-variants.{Dictionary, TooLong, Empty, BasicType, Short, Sum, NoSuchEntry, NotAbove, Offset, EmptyChild}
 use Rattle.object.specs.declared.Verdict.{Verdict}
 use Rattle.object.specs.declared.Verdict.the-variants as verdict
 
@@ -19,6 +19,7 @@ refusalNumber Sum = 24
 refusalNumber (NoSuchEntry k) = 25
 refusalNumber (NotAbove k) = 26
 refusalNumber (Offset k) = 27
+refusalNumber (EmptyChild k) = 28
 
 abbrev pub refusalPlace : Refusal → ℕ
 refusalPlace (Dictionary r) = dictionary.refusalPlace r
@@ -30,6 +31,7 @@ refusalPlace Sum = 0
 refusalPlace (NoSuchEntry k) = k
 refusalPlace (NotAbove k) = k
 refusalPlace (Offset k) = k
+refusalPlace (EmptyChild k) = k
 
 abbrev pub refused : Refusal → Answer
 refused r = refuse (refusalNumber r) (refusalPlace r)

@@ -45,9 +45,9 @@ pub record Named (d o : List ℕ) : Type 0 where
   pub headed : Headed d o
   pub names : (k : ℕ) → k < count o → GoodName d o k
 
--- field k's offset is within the region
+-- field k's offset is below the region's length, so that its child has a byte
 abbrev pub InRegion : List ℕ → ℕ → Type 0
-InRegion o k = offset o k ≤ offset o (count o)
+InRegion o k = offset o k < offset o (count o)
 
 -- THE RULES OF AN ACCEPTED LAYER with n fields, the region from v to the trimmed end e
 pub record Layer (d o : List ℕ) (n v e : ℕ) : Type 0 where
@@ -74,3 +74,4 @@ pub data Refusal (d o : List ℕ) : ℕ → ℕ → Type 0 where
   not-above : {k : ℕ} → Headed d o → k < count o → ((j : ℕ) → j < k → GoodName d o j) → id o k < dictionary.count d → 0 < k
       → (Before (fieldName d o (k - 1)) (fieldName d o k) → ⊥) → Refusal d o 26 k
   past-region : {k : ℕ} → Named d o → k < count o → ((j : ℕ) → j < k → InRegion o j) → offset o (count o) < offset o k → Refusal d o 27 k
+  empty-child : {k : ℕ} → Named d o → k < count o → ((j : ℕ) → j < k → InRegion o j) → offset o k ≡ offset o (count o) → Refusal d o 28 k

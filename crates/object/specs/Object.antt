@@ -90,9 +90,12 @@ idRules n o k =
     ∷ (0 <? k and id o k ≤? id o (k - 1) ⇒ 26 at k)
     ∷ []
 
--- of field k: its offset is above the region's length, which is the last offset
+-- of field k: its offset is above the region's length, which is the last offset; or at it, so that the child has no bytes (document 02, e)
 unfoldable pub offsetRules : List ℕ → ℕ → List Rule
-offsetRules o k = (offset o (count o) <? offset o k ⇒ 27 at k) ∷ []
+offsetRules o k =
+    (offset o (count o) <? offset o k ⇒ 27 at k)
+    ∷ (offset o (count o) ≤? offset o k ⇒ 28 at k)
+    ∷ []
 
 unfoldable pub checksWithin : ℕ → List ℕ → List ℕ → Found
 checksWithin most d o =

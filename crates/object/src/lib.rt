@@ -10,9 +10,9 @@ ghost use Rattle.rules.specs.Rules.{first, each, Says};
 ghost use Rattle.rules.specs.Rules.Test.{_<?_, isn't, _and_};
 ghost use Rattle.object.specs.Object.{offsetWidth, count as countOf, start as regionStart, end as trimmedEnd, id as idOf, offset as offsetOf, nameRules, idRules, offsetRules, checks};
 ghost use Rattle.object.specs.Promises.{CheckPromise};
-ghost use Rattle.object.specs.Steps.{LeadOf, PlacesOf, LayerOf, HeadOf, foundOf, IdSays, Over, CheckedOf, OpeningOf};
+ghost use Rattle.object.specs.Steps.{LeadOf, PlacesOf, LayerOf, HeadOf, foundOf, IdSays, ChildSays, Over, CheckedOf, OpeningOf};
 
-// One case for each of the refusals 20 to 27, with its place, and the dictionary's own.
+// One case for each of the refusals 20 to 28, with its place, and the dictionary's own.
 pub enum Refusal {
     Dictionary(metadata::Refusal),
     TooLong,
@@ -23,6 +23,7 @@ pub enum Refusal {
     NoSuchEntry(usize),
     NotAbove(usize),
     Offset(usize),
+    EmptyChild(usize),
 }
 
 pub enum Verdict {
@@ -291,7 +292,27 @@ fn check_fields(dict: &[u8], h: metadata::Header, object: &[u8], l: Layer) -> Ou
     check_names(dict, h, object, l)
 }
 
-// Check 27, field by field.
+// What checks 27 and 28 come to for one offset.
+enum Child {
+    Outside,
+    Empty,
+    Inside,
+}
+
+// The child that starts at `offset` of a region of `length` bytes.
+fn judge_child(length: usize, offset: usize) -> Child
+    ensures { λ r. ⌜ ChildSays length offset r ⌝ }
+{
+    if offset < length {
+        return Child::Inside;
+    }
+    if length < offset {
+        return Child::Outside;
+    }
+    Child::Empty
+}
+
+// Checks 27 and 28, field by field.
 fn check_offsets(object: &[u8], l: Layer) -> Outcome
     requires { ⌜ LayerOf (now object) l ⌝ }
     ensures { λ r. ⌜ foundOf r ≡ first (each (offsetRules (now (object .entry))) (countOf (now (object .entry)))) ⌝ }
@@ -300,15 +321,23 @@ fn check_offsets(object: &[u8], l: Layer) -> Outcome
     let length = l.end - l.start;
     let mut k = 0;
     while k < count {
-        if length < offset_at(object, l, k) {
-            return Outcome::Refused(Refusal::Offset(k));
+        let child = judge_child(length, offset_at(object, l, k));
+        match child {
+            Child::Outside => {
+                return Outcome::Refused(Refusal::Offset(k));
+            }
+            Child::Empty => {
+                return Outcome::Refused(Refusal::EmptyChild(k));
+            }
+            Child::Inside => {
+                k += 1;
+            }
         }
-        k += 1;
     }
     Outcome::Pass
 }
 
-// Checks 25 to 27, after those of the dictionary and of the header.
+// Checks 25 to 28, after those of the dictionary and of the header.
 fn check_rest(dict: &[u8], h: metadata::Header, object: &[u8], l: Layer) -> Outcome
     requires { ⌜ Over (now dict) h × LayerOf (now object) l ⌝ }
     ensures { λ r. ⌜ foundOf r ≡ checks (now (dict .entry)) (now (object .entry)) ⌝ }

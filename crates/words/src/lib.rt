@@ -64,7 +64,7 @@ fn of_dictionary_refusal(r: metadata::Refusal) -> Words
     }
 }
 
-// Refusals 20 to 27, and the dictionary's.
+// Refusals 20 to 28, and the dictionary's.
 fn of_object_refusal(r: object::Refusal) -> Words
     ensures { λ w. ⌜ listOf w ≡ refusalWords (objectNumber r) (objectPlace r) ⌝ }
 {
@@ -78,6 +78,7 @@ fn of_object_refusal(r: object::Refusal) -> Words
         object::Refusal::NoSuchEntry(k) => refusal(25, k),
         object::Refusal::NotAbove(k) => refusal(26, k),
         object::Refusal::Offset(k) => refusal(27, k),
+        object::Refusal::EmptyChild(k) => refusal(28, k),
     }
 }
 

@@ -1,5 +1,5 @@
 -- `object::check_offsets` meets its contract: the loop keeps that all fields before k pass. Assumes nothing.
-use Rattle.rules.proofs.Prelude.{_≡_, sym, _∙_, _-_, _≤_, arith, first, each, pass, first-at, first-pass, each-none, each-more, each-stop}
+use Rattle.rules.proofs.Prelude.{_≡_, sym, _∙_, _-_, _≤_, arith, needs, first, each, pass, first-at, first-pass, each-none, each-more, each-stop}
 use Rattle.object.specs.Object.{count as countOf, offsetRules}
 use Rattle.object.proofs.Laws.{start-before, end-is}
 use Rattle.object.proofs.check_offsets.Statement.{statement}
@@ -20,14 +20,21 @@ check-offsets-spec =
     μ-loop
     (λ c. omega arith)  -- sub-length
     (λ c. (omega arith, each-none _))  -- loop-holds
-    (λ c κs. omega arith)  -- offset-at-requires
-    (λ c. let l = c .before .before .before .loop in
-    let o = c .before .before .before .before .before .before .args .object .now in
+    (λ c κs. omega arith) (λ c κs. search needs) (λ c. search needs)
+    (λ c. let l = c .before .before .before .before .before .loop in
+    let o = c .before .before .before .before .before .before .before .before .args .object .now in
+    let outside = rw (c .enum-told .given .1) at (c .before .before .judge-child .ensures) in
     sym (each-stop _ (l .k) _ (l .inv .1) (first-at 0 (offsetRules o (l .k)) (omega (arith, start-before o, end-is o))) (omega arith)))  -- returns
-    (λ c. omega arith) (λ c. omega arith)
-    (λ c. let l = c .before .before .before .loop in
-    let o = c .before .before .before .before .before .before .args .object .now in
-    (omega arith, each-more _ (l .k) (l .inv .1) ∙ first-pass (offsetRules o (l .k)) (omega (arith, start-before o, end-is o), tt)))  -- loop-again
+    (λ c. search needs)
+    (λ c. let l = c .before .before .before .before .before .loop in
+    let o = c .before .before .before .before .before .before .before .before .args .object .now in
+    let empty = rw (c .enum-told2 .given .1) at (c .before .before .judge-child .ensures) in
+    sym (each-stop _ (l .k) _ (l .inv .1) (first-at 1 (offsetRules o (l .k)) (omega (arith, start-before o, end-is o))) (omega arith)))  -- returns-2
+    (λ c. search needs) (λ c. omega arith) (λ c. omega arith)
+    (λ c. let l = c .before .before .before .before .before .loop in
+    let o = c .before .before .before .before .before .before .before .before .args .object .now in
+    let inside = rw (c .enum-told3 .given .1) at (c .before .before .judge-child .ensures) in
+    (omega arith, each-more _ (l .k) (l .inv .1) ∙ first-pass (offsetRules o (l .k)) (omega (arith, start-before o, end-is o))))  -- loop-again
     (λ c. let l = c .before .loop in
     let all : l .k ≡ countOf (c .before .before .before .before .args .object .now) = omega arith in
-    rw (← all) (sym (l .inv .1))))  -- returns-2
+    rw (← all) (sym (l .inv .1))))  -- returns-3
