@@ -1,6 +1,6 @@
 -- What a host learns from each call, whatever code was returned (specs/Host.antt); and no word of any answer is too large for its four bytes.
 -- Assumes nothing.
-use Rattle.rules.proofs.Prelude.{_≡_, refl, sym, ap, _∙_, List, _++_, ℕ, _*_, _≤_, _<_, decLt, arith, lt-ltb, le-ltb, length, drop, getD, List·getD-append, Answer, codeOf, by-meaning}
+use Rattle.rules.proofs.Prelude.{_≡_, refl, sym, ap, _∙_, _↔_, List, _++_, ℕ, _+_, _*_, _≤_, _<_, add-zero, decLt, arith, lt-ltb, le-ltb, length, drop, getD, List·getD-append, Answer, codeOf, by-meaning}
 use Rattle.chars.specs.Rfc3629.{Completed}
 use Rattle.metadata.specs.Dictionary as dictionary
 use Rattle.metadata.specs.Meaning.{Refusal}
@@ -11,7 +11,6 @@ use Rattle.metadata.proofs.Names as dictionary-names
 use Rattle.metadata.proofs.Fits as dictionary-fits
 use Rattle.metadata.proofs.Says.{too-small, enough}
 use Rattle.object.specs.Object as object
-use Rattle.object.specs.Object.{count}
 use Rattle.object.proofs.Means.{checks-mean}
 use Rattle.object.proofs.Refuses.{is-due}
 use Rattle.object.proofs.Fits.{checks-code, layer-small, child-small}
@@ -21,7 +20,8 @@ use Rattle.lookup.specs.Meaning.Spells.{spells}
 use Rattle.lookup.proofs.Found as lookup
 use Rattle.listing.specs.Words.{rows, listed as list-of, wordsAfter as filled}
 use Rattle.listing.proofs.Rows.{rows-length}
-use Rattle.listing.proofs.Listed.{id-word}
+use Rattle.listing.specs.Meaning.{Listed}
+use Rattle.listing.proofs.Listed.{id-word, span-word, span-some}
 use Rattle.listing.proofs.Lists as listing
 use Rattle.words.specs.Shapes.{wordsOf, lookupShape, layerShape, dictionaryShape, nameShape, stripBytes}
 use Rattle.lichenhusk.specs.Strip.{lookupWords, layerWords, listWords, verdictWords, nameAtWords, filledAfter}
@@ -116,6 +116,15 @@ module _ (strip : List ℕ) (code : ℕ) (after : List ℕ) where
           go (absent a) z = absurd (omega arith)
           go (lookup-refused b t r) z = absurd (omega arith)
 
+      -- a found child is never empty: start is below end exactly where 0 was returned, unless the strip is short
+      pub start-below-end : (code ≡ 40 → ⊥) → (code ≡ 0) ↔ (word after 3 < word after 4)
+      start-below-end m = let s = lookup-tells .says m in rw (s .0) at (go (s .1))
+        where
+          go : {w : List ℕ} → LookupSays d o q w → (getD w 0 0 ≡ 0) ↔ (getD w 3 0 < getD w 4 0)
+          go (found f) = (λ z. f .has-bytes, λ h. refl)
+          go (absent a) = (λ z. absurd (omega arith), λ h. absurd (omega arith))
+          go (lookup-refused b t r) = (λ z. absurd (omega arith), λ h. absurd (omega arith))
+
       -- and what a host asked a second time for: a name call at the strip's id gives the name that was looked for
       pub name-of-found : code ≡ 0 → (strip′ : List ℕ) (code′ : ℕ) (after′ : List ℕ) → NamePromise d (word after 2) strip′ code′ after′
           → Tells (Spelled d q) strip′ code′ after′
@@ -159,18 +168,29 @@ module _ (strip : List ℕ) (code : ℕ) (after : List ℕ) where
               let s = list-tells .says (λ f. h (list-tells .no-strip .0 f)) in
               let w = by-case (s .1) left in record { filled = λ z. w .0 (s .0 ∙ z); kept = λ m. w .1 (λ z. m (sym (s .0) ∙ z)) }
 
-      -- it returned 0: the id of a field that a lookup finds is the first word of that field's row
-      pub id-listed : code ≡ 0 → (q : List ℕ) (k i a e : ℕ) → Found d o q k i a e → getD wordsAfter (3 * k) 0 ≡ i
-      id-listed z q k i a e f =
-          let s = list-tells .says (λ f. omega arith) in
-          let fills : wordsAfter ≡ rows o (count o) ++ drop (3 * count o) w = rw (counted (s .1) (s .0 ∙ z)) at (list-fills .filled z) in
-          rw fills
-          (List·getD-append (rows o (count o)) _ 0 (3 * k) (omega (arith, rows-length o (count o), f .is-field)) ∙ id-word o (count o) k (f .is-field) ∙ sym (f .is-id))
-        where
-          counted : {x : List ℕ} → ListSays d o w x → getD x 0 0 ≡ 0 → getD x 1 0 ≡ count o
-          counted (listed l) z = l .accepted .counts
-          counted (no-room r) z = absurd (omega arith)
-          counted (list-refused b t r) z = absurd (omega arith)
+      -- it returned 0: the strip's words are those of an accepted layer, and word j of a field stands in its row
+      module _ (z : code ≡ 0) where
+        pub returned-listed : Listed d o w (word after 1) (word after 3) (word after 4)
+        returned-listed = let s = list-tells .says (λ f. omega arith) in go (s .1) (s .0 ∙ z)
+          where
+            go : {x : List ℕ} → ListSays d o w x → getD x 0 0 ≡ 0 → Listed d o w (getD x 1 0) (getD x 3 0) (getD x 4 0)
+            go (listed l) z = l
+            go (no-room r) z = absurd (omega arith)
+            go (list-refused b t r) z = absurd (omega arith)
+
+        row-word : (k j : ℕ) → k < word after 1 → j < 3 → getD wordsAfter (3 * k + j) 0 ≡ getD (rows o (word after 1)) (3 * k + j) 0
+        row-word k j p q =
+            let n = word after 1 in rw (list-fills .filled z) (List·getD-append (rows o n) (drop (3 * n) w) 0 (3 * k + j) (omega (arith, rows-length o n)))
+
+        -- the id of a field that a lookup finds is the first word of that field's row
+        pub id-listed : (q : List ℕ) (k i a e : ℕ) → Found d o q k i a e → getD wordsAfter (3 * k) 0 ≡ i
+        id-listed q k i a e f =
+            let field : k < word after 1 = rw (returned-listed .accepted .counts) (f .is-field) in
+            rw add-zero at (row-word k 0 field (omega arith)) ∙ id-word o _ k field ∙ sym (f .is-id)
+
+        -- and no field's span is 0
+        pub span-listed : (k : ℕ) → k < word after 1 → 0 < getD wordsAfter (3 * k + 2) 0
+        span-listed k p = rw (row-word k 2 p (omega arith) ∙ span-word o _ k p) (span-some d o _ _ _ k (returned-listed .accepted) p)
 
 -- the empty dictionary
 pub empty-tells : (room : List ℕ) (code : ℕ) (after : List ℕ) → EmptyPromise room code after → EmptyTells room code after

@@ -60,8 +60,9 @@ roll = 0x72 ∷ 0x6F ∷ 0x6C ∷ 0x6C ∷ []
 abbrev pub run : List ℕ
 run = flow ++ rol ++ roll ++ 0x2E ∷ 0x2E ∷ []
 
--- THE TABLE, with the ids and the strip of request c); then request b)'s row, one for request c), where field and id differ, and those of many
--- names: their rows, a word that stays, an end that falls, one that passes the run, and a word too few
+-- THE TABLE, with the ids and the strip of request c) and the 28 of request e); then request b)'s row, one for request c), where field and id
+-- differ, those of many names: their rows, a word that stays, an end that falls, one that passes the run, and a word too few; and those of
+-- request e): its second case, 28 of field 0 before 27 of field 1, and 27 of field 0 before 28 of field 1
 abbrev pub starred : List (Asked × Told)
 starred =
     (verdict (0x01 ∷ 0x00 ∷ 0x00 ∷ []), answers (accept (0 ∷ 3 ∷ [])))
@@ -92,4 +93,7 @@ starred =
     ∷ (lookups [] P run (4 ∷ 7 ∷ 14 ∷ []) [], answers (refuse 45 2))
     ∷ (lookups [] P run (4 ∷ 7 ∷ 11 ∷ []) [], answers (refuse 11 0))
     ∷ (lookups D P run (4 ∷ 7 ∷ 11 ∷ []) (replicate 14 9), answers (refuse 41 0))
+    ∷ (layer D (0x02 ∷ 0x01 ∷ 0x00 ∷ 0x01 ∷ 0x01 ∷ 0x00 ∷ []), answers (refuse 28 0))
+    ∷ (layer D (0x02 ∷ 0x02 ∷ 0x00 ∷ 0x01 ∷ 0x01 ∷ 0x02 ∷ 0x01 ∷ 0x00 ∷ []), answers (refuse 28 0))
+    ∷ (layer D (0x02 ∷ 0x02 ∷ 0x00 ∷ 0x01 ∷ 0x02 ∷ 0x01 ∷ 0x01 ∷ 0x00 ∷ []), answers (refuse 27 0))
     ∷ []

@@ -1,9 +1,11 @@
 -- The words of a listing: three a field in field order, its id, its start and its span.
--- The span runs to the least of the n + 1 offsets above the field's own, and is 0 if none is. Assumes nothing.
+-- The span runs to the least of the n + 1 offsets above the field's own, and is 0 if none is, which is so of no
+-- field of an accepted layer. Assumes nothing.
 use Rattle.rules.proofs.Prelude.{_≡_, refl, _∙_, _⊎_, inl, inr, Bool, true, false, cond, _&&_, _||_, List, ℕ, zero, suc, _+_, _-_, _*_, _≤_, _<_}
 use Rattle.rules.proofs.Prelude.{add-zero, arith, ltb-true, ltb-false, leb-true, leb-false, ltb, leb, getD, and-last}
 use Rattle.rules.proofs.Rows.{row-word}
 use Rattle.object.specs.Object.{count, id, offset, start}
+use Rattle.object.specs.Meaning.{Layer}
 use Rattle.listing.specs.Words.{leastAbove, span, row, rows}
 use Rattle.listing.proofs.Rows.{row-three}
 
@@ -85,3 +87,11 @@ module _ (o : List ℕ) (k : ℕ) where
           ⊎ ((0 < span o k) × ((i : ℕ) × (i ≤ count o) × (offset o i ≡ offset o k + span o k)))
       go y z (none-above h) = inl (omega arith, λ j p. h j (omega arith))
       go y z (is-least i p e q h) = inr (omega arith, (i, omega arith, e ∙ z))
+
+-- NO EMPTY CHILDREN: a field of an accepted layer has a span, since the last offset is above its own
+pub span-some : (d o : List ℕ) (n v e k : ℕ) → Layer d o n v e → k < n → 0 < span o k
+span-some d o n v e k l p = go (offset o k + span o k) refl (reached o k)
+  where
+    go : (y : ℕ) → y ≡ offset o k + span o k → Least (offset o) (offset o k) (count o + 1) y → 0 < span o k
+    go y z (none-above h) = absurd (omega (arith, h (count o) (omega arith), l .offsets k (omega arith)))
+    go y z (is-least i q is above h) = omega arith

@@ -42,6 +42,7 @@ module _ (d o q : List ℕ) where
             id-names = at .1;
             starts = refl;
             ends = refl;
+            has-bytes = omega (arith, end-is o, g .offsets k (at .0));
           })
 
   -- FOUND
@@ -94,7 +95,7 @@ module _ (d o q : List ℕ) where
 
   -- where the child lies there are bytes; on absence or refusal it is nothing, at the start
   pub found-inside : (k i a e : ℕ) → Found d o q k i a e → (a ≤ e) × (e ≤ length o)
-  found-inside k i a e f = (omega (arith, end-is o, f .accepted .offsets k (f .is-field)), omega arith)
+  found-inside k i a e f = omega arith
 
   pub child-inside : (startOf (lookup d o q) ≤ endOf (lookup d o q)) × (endOf (lookup d o q) ≤ length o)
   child-inside = by-answer (λ x. (startOf x ≤ endOf x) × (endOf x ≤ length o)) found-inside (λ _. omega arith) (λ c p _. omega arith)

@@ -1,7 +1,9 @@
 -- What the code's own answers say: each case of what a call returns, exactly when, in the words of specs/Meaning.antt. An answer that meets
 -- the call's promise is meant. Assumes nothing.
-use Rattle.rules.proofs.Prelude.{_≡_, sym, _∙_, true, false, _↔_, List, _++_, ℕ, _*_, _<_, length, drop, each, _otherwise_, swap, false-true}
+use Rattle.rules.proofs.Prelude.{_≡_, sym, ap, _∙_, true, false, _↔_, List, [], _++_, ℕ, _*_, _<_, arith, length, drop, each, _otherwise_, swap, false-true}
 use denote.Ref.{RefT}
+use Rattle.part.specs.Part.{part}
+use Rattle.part.proofs.Laws.{part-length}
 use Rattle.run.specs.Run.{name}
 use Rattle.run.specs.Meaning.{BadEnd}
 use Rattle.metadata.specs.declared.Entry.{Entry}
@@ -16,12 +18,13 @@ use Rattle.object.proofs.Pinned.{refusalBy, refusal-back}
 use Rattle.lookup.specs.declared.Lookup.{Lookup}
 use Rattle.lookup.specs.declared.Lookup.the-variants as lookup
 use Rattle.lookup.specs.declared.Lookups.the-variants as lookups
-use Rattle.lookup.specs.ByName.{lookupWithin}
+use Rattle.lookup.specs.ByName.{lookup as lookup-of, lookupWithin, startOf, endOf}
 use Rattle.lookup.specs.Many.{rowOf, row}
-use Rattle.lookup.specs.Meaning.{Found, Absent, Spells, Answered, NoRoom, RefusedAfter, rowAt}
+use Rattle.lookup.specs.Meaning.{Found, Absent, NotFound, Spells, Answered, NoRoom, RefusedAfter, rowAt}
+use Rattle.lookup.specs.Meaning.NotFound.{absent, refused}
 use Rattle.lookup.specs.Answers.{lookupNumbers, PartOf}
 use Rattle.lookup.specs.Promises.{GetPromise, ChildPromise, GetAllPromise}
-use Rattle.lookup.proofs.Found.{found, absent-is, refused-is, asked-again}
+use Rattle.lookup.proofs.Found.{by-answer, found, absent-is, refused-is, found-inside, asked-again}
 use Rattle.lookup.proofs.ManyMeans as many
 use Rattle.lookup.proofs.AllRows.{row-of-get}
 
@@ -45,6 +48,11 @@ module _ (d o q : List ℕ) where
   pub get-refused : (r : Refusal) → GetPromise d o q (lookup.Refused r) ↔ Due d o (refusalNumber r) (refusalPlace r)
   get-refused r = swap (refused-is d o q (refusalNumber r) (refusalPlace r) (not-absent r))
 
+-- the bytes of a found child
+some-there : (d o q : List ℕ) (k i a e : ℕ) → Found d o q k i a e → part o a e ≡ [] → ⊥
+some-there d o q k i a e f none =
+    let inside = found-inside d o q k i a e f in omega (arith, part-length o a e (inside .0) (inside .1), ap length none)
+
 -- `child`: the part where it was found; on absence or refusal the empty part at the object's start
 module _ (d : List ℕ) (object : RefT (List ℕ)) (q : List ℕ) (r : RefT (List ℕ)) (promised : ChildPromise d object q r) where
   pub child-found : (k i a e : ℕ) → Found d (object .now) q k i a e → PartOf object r a e
@@ -56,6 +64,22 @@ module _ (d : List ℕ) (object : RefT (List ℕ)) (q : List ℕ) (r : RefT (Lis
   pub child-refused : (c p : ℕ) → Due d (object .now) c p → PartOf object r 0 0
   unfolding lookupWithin _otherwise_
   child-refused c p due = rw (is-due d (object .now) due) at promised
+
+  -- and so it is empty exactly on absence or refusal: no found child is
+  pub child-empty : (r .now ≡ []) ↔ NotFound d (object .now) q
+  child-empty = (λ none. nowhere (sym (promised .bytes) ∙ none), nothing)
+    where
+      o : List ℕ
+      o = object .now
+
+      nowhere : part o (startOf (lookup-of d o q)) (endOf (lookup-of d o q)) ≡ [] → NotFound d o q
+      nowhere =
+          by-answer d o q (λ x. part o (startOf x) (endOf x) ≡ [] → NotFound d o q) (λ k i a e f none. absurd (some-there d o q k i a e f none))
+          (λ a _. absent a) (λ c p due _. refused due)
+
+      nothing : NotFound d o q → r .now ≡ []
+      nothing (absent a) = child-absent a .bytes
+      nothing (refused due) = child-refused _ _ due .bytes
 
 -- `get_all`, with what it leaves in the words. No case of a refusal has the number 41 or 45
 not-41 : (r : Refusal) → refusalNumber r ≡ 41 → ⊥

@@ -23,8 +23,7 @@ lookupsNumbers (lookups.Refused r) = refused r
 lookupsNumbers lookups.NoRoom = refuse 41 0
 lookupsNumbers (lookups.Answered n v e) = accept (n ∷ v ∷ e ∷ [])
 
--- A PART THAT IS HANDED BACK: its bytes, and the place where it starts, so that the empty part at the object's start and an empty child are
--- told apart
+-- A PART THAT IS HANDED BACK: its bytes, and the place where it starts, an empty part's too
 pub record PartOf (whole r : RefT (List ℕ)) (from to : ℕ) : Type 0 where
   pub bytes : r .now ≡ part (whole .now) from to
   pub place : r .ptr ≡ (whole .ptr .0, from + whole .ptr .1)

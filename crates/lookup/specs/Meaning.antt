@@ -12,7 +12,7 @@ use Rattle.object.specs.Object.{count, id, offset, start, end, fieldName}
 use Rattle.object.specs.Meaning.{Layer, Refusal}
 
 -- found: the layer is accepted, k is one of its fields, field k's dictionary bytes equal the query; i is the field's id, and so the dictionary's
--- bytes at i are the query; the child runs from a to e
+-- bytes at i are the query; the child runs from a to e and is never empty
 pub record Found (d o q : List ℕ) (k i a e : ℕ) : Type 0 where
   pub accepted : Layer d o (count o) (start o) (end o)
   pub is-field : k < count o
@@ -22,11 +22,17 @@ pub record Found (d o q : List ℕ) (k i a e : ℕ) : Type 0 where
   pub id-names : dictionary.name d i ≡ q
   pub starts : a ≡ start o + offset o k
   pub ends : e ≡ end o
+  pub has-bytes : a < e
 
 -- absent: the layer is accepted, and none of its fields has that name
 pub record Absent (d o q : List ℕ) : Type 0 where
   pub accepted : Layer d o (count o) (start o) (end o)
   pub no-field : (k : ℕ) → k < count o → fieldName d o k ≡ q → ⊥
+
+-- nothing is found: the name is absent, or the dictionary or the layer is refused
+pub data NotFound (d o q : List ℕ) : Type 0 where
+  absent : Absent d o q → NotFound d o q
+  refused : {c p : ℕ} → Refusal d o c p → NotFound d o q
 
 -- an answer to `name by number` that gives q: the dictionary's bytes where it says are q
 pub data Spells (d q : List ℕ) : Answer → Type 0 where
