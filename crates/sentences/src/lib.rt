@@ -69,6 +69,7 @@ fn meaning_of_object(code: usize) -> bool {
         25 => tell(b"its id is no entry of the dictionary"),
         26 => tell(b"its name is not above the one before"),
         27 => tell(b"its offset is above the value region's length"),
+        28 => tell(b"its child has no bytes"),
         41 => tell(b"the answer has more words than there is room for"),
         _ => tell(b"its end falls or passes the bytes of the names"),
     }
@@ -82,7 +83,7 @@ fn place(a: Answer) {
             tell(b" of the value region");
         }
         17 | 18 => say(b" at entry ", a.place),
-        25 | 26 | 27 => say(b" at field ", a.place),
+        25..=28 => say(b" at field ", a.place),
         45 => say(b" at name ", a.place),
         _ => {}
     }
@@ -90,7 +91,7 @@ fn place(a: Answer) {
 
 fn is_object(code: usize) -> bool {
     match code {
-        20..=27 | 41 | 45 => true,
+        20..=28 | 41 | 45 => true,
         _ => false,
     }
 }
@@ -170,10 +171,6 @@ pub fn name(dict: &[u8], entry: usize) {
 
 // The first bytes of a value.
 fn start_of(value: &[u8]) {
-    if value.len() == 0 {
-        tell(b" none");
-        return;
-    }
     if value.len() <= 16 {
         ask::write_hex(value);
         return;
