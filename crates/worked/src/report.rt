@@ -1,4 +1,5 @@
 // Each case's line to standard output, and the tally.
+use cases::expected::has_filled;
 use cases::tally::Tally;
 use cases::tally::with;
 use libc::STDOUT_FILENO;
@@ -30,13 +31,30 @@ pub fn number(t: Tally, case: &[u8], got: usize, want: usize) -> Tally {
 pub fn bytes(t: Tally, case: &[u8], got: &[u8], want: &[u8]) -> Tally {
     io::write_all(STDOUT_FILENO, case);
     ask::say(b": ", got.len());
-    io::write_all(STDOUT_FILENO, b" bytes");
+    if got.len() == 1 {
+        io::write_all(STDOUT_FILENO, b" byte");
+    } else {
+        io::write_all(STDOUT_FILENO, b" bytes");
+    }
     ask::write_hex(got);
     if check::same(got, want) {
         return good(t);
     }
     io::write_all(STDOUT_FILENO, b": NOT as expected:");
     ask::write_hex(want);
+    bad(t)
+}
+
+// A case whose answer is words, expected as a line of the table has them: after a colon.
+pub fn words(t: Tally, case: &[u8], got: &[u32], want: &[u8]) -> Tally {
+    io::write_all(STDOUT_FILENO, case);
+    io::write_all(STDOUT_FILENO, b":");
+    ask::write_words(got);
+    if has_filled(want, 0, got, got.len()) {
+        return good(t);
+    }
+    io::write_all(STDOUT_FILENO, b": NOT as expected");
+    io::write_all(STDOUT_FILENO, want);
     bad(t)
 }
 

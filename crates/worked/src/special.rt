@@ -1,6 +1,7 @@
 // The cases that a line of text does not say: rooms, parts, and long inputs.
 use crate::report::bytes;
 use crate::report::number;
+use crate::report::words;
 use cases::tally::Tally;
 use libc::STDOUT_FILENO;
 
@@ -36,11 +37,50 @@ fn of_p(t: Tally) -> Tally {
     child(t, b"P, the child \"rol\"", p, b"rol", b"")
 }
 
-// An empty child and the empty part of an absence: the lookups of data/cases tell them apart.
-fn of_empty(t: Tally) -> Tally {
-    let o = b"\x02\x01\x00\x01\x01\x00";
-    let t = child(t, b"02 01 00 01 01 00, the child \"flow\"", o, b"flow", b"");
-    let t = child(t, b"02 01 00 01 01 00, the child \"roll\"", o, b"roll", b"");
+// Children of one byte, the fewest that there are, and a name that is absent beside them.
+fn of_a_byte(t: Tally) -> Tally {
+    let last = b"\x02\x01\x00\x01\x02\x0C\x04";
+    let t = child(
+        t,
+        b"the region's last byte, the child \"flow\"",
+        last,
+        b"flow",
+        b"\x04",
+    );
+    let t = child(t, b"its child \"roll\", absent", last, b"roll", b"");
+    let shared = b"\x02\x02\x00\x01\x00\x00\x01\x04";
+    let t = child(
+        t,
+        b"a shared offset, the child \"flow\"",
+        shared,
+        b"flow",
+        b"\x04",
+    );
+    child(t, b"its child \"roll\"", shared, b"roll", b"\x04")
+}
+
+// The child of a refused object is the empty part: which refusal it is, the lookups of data/cases tell. Where the empty part lies a program
+// does not see; the promise of `child` fixes it.
+fn of_refused(t: Tally) -> Tally {
+    let none = b"\x02\x01\x00\x00\x00";
+    let t = child(t, b"02 01 00 00 00, the child \"flow\"", none, b"flow", b"");
+    let end = b"\x02\x01\x00\x01\x01\x00";
+    let t = child(
+        t,
+        b"02 01 00 01 01 00, the child \"flow\"",
+        end,
+        b"flow",
+        b"",
+    );
+    let t = child(t, b"its child \"roll\"", end, b"roll", b"");
+    let second = b"\x02\x02\x00\x01\x00\x01\x01\x00";
+    let t = child(
+        t,
+        b"field 1 of no bytes, the child of field 0",
+        second,
+        b"flow",
+        b"",
+    );
     child(t, b"00, the child \"flow\"", b"\x00", b"flow", b"")
 }
 
@@ -114,6 +154,28 @@ fn words_that_stay(t: Tally) -> Tally {
     )
 }
 
+// Six words of 9 after an object over D with a field of a byte and one of no bytes is refused: by the listing, and by many names.
+fn words_of_refused(t: Tally) -> Tally {
+    let d = b"\x11\x02\x00\x04\x08flowroll";
+    let o = b"\x02\x02\x00\x01\x00\x01\x01\x00";
+    let mut listed = [9u32; 6];
+    let t = number(
+        t,
+        b"field 1 of no bytes, listed into six words of 9",
+        ask::list(d, o, &mut listed).code,
+        28,
+    );
+    let t = words(t, b"the words, which stay", &listed, b": 9 9 9 9 9 9");
+    let mut row = [9u32; 6];
+    let t = number(
+        t,
+        b"its \"flow\" into six words of 9",
+        ask::lookup_all(d, o, b"flow", &[4; 1], &mut row).code,
+        28,
+    );
+    words(t, b"the words, which stay", &row, b": 9 9 9 9 9 9")
+}
+
 // Document 01's two lengths, 65,536 bytes and one more: both are read. For what 10 and 20 refuse no program has room: the host's Rust tests
 // have those cases.
 fn long_dictionary(t: Tally) -> Tally {
@@ -153,7 +215,8 @@ fn long_object(t: Tally) -> Tally {
 }
 
 pub fn run(t: Tally) -> Tally {
-    let t = words_that_stay(of_empty(of_p(rooms(t))));
+    let t = of_refused(of_a_byte(of_p(rooms(t))));
+    let t = words_of_refused(words_that_stay(t));
     let t = number(
         t,
         b"P and any byte, \"flow\" found as in P",
