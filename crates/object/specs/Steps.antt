@@ -17,8 +17,6 @@ use Rattle.object.specs.declared.Outcome.{Outcome}
 use Rattle.object.specs.declared.Outcome.the-variants as outcome
 use Rattle.object.specs.declared.Judged.{Judged}
 use Rattle.object.specs.declared.Judged.the-variants as judged
-use Rattle.object.specs.declared.Child.{Child}
-use Rattle.object.specs.declared.Child.the-variants as child
 use Rattle.object.specs.declared.Message.{Message}
 use Rattle.object.specs.declared.Opening.{Opening}
 use Rattle.object.specs.declared.Opening.the-variants as opening
@@ -76,12 +74,6 @@ abbrev pub IdSays : ℕ → ℕ → ℕ → ℕ → Judged → Type 0
 IdSays n k before id judged.NoSuchEntry = n ≤ id
 IdSays n k before id judged.NotAbove = (id < n) × (0 < k) × (id ≤ before)
 IdSays n k before id judged.Good = (id < n) × (0 < k → before < id)
-
--- what a child's offset says, in a region of `length` bytes
-abbrev pub ChildSays : ℕ → ℕ → Child → Type 0
-ChildSays length offset child.Outside = length < offset
-ChildSays length offset child.Empty = offset ≡ length
-ChildSays length offset child.Inside = offset < length
 
 -- h is of a dictionary that passed its checks
 abbrev pub Over : List ℕ → Header → Type 0

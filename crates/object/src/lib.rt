@@ -7,10 +7,10 @@ ghost use lib.ListN.{length};
 ghost use Rattle.part.specs.Part.{part};
 ghost use Rattle.names.specs.Order.{below};
 ghost use Rattle.rules.specs.Rules.{first, each, Says};
-ghost use Rattle.rules.specs.Rules.Test.{_<?_, isn't, _and_};
+ghost use Rattle.rules.specs.Rules.Test.{_<?_, _≤?_, isn't, _and_};
 ghost use Rattle.object.specs.Object.{offsetWidth, count as countOf, start as regionStart, end as trimmedEnd, id as idOf, offset as offsetOf, nameRules, idRules, offsetRules, checks};
 ghost use Rattle.object.specs.Promises.{CheckPromise};
-ghost use Rattle.object.specs.Steps.{LeadOf, PlacesOf, LayerOf, HeadOf, foundOf, IdSays, ChildSays, Over, CheckedOf, OpeningOf};
+ghost use Rattle.object.specs.Steps.{LeadOf, PlacesOf, LayerOf, HeadOf, foundOf, IdSays, Over, CheckedOf, OpeningOf};
 
 // One case for each of the refusals 20 to 28, with its place, and the dictionary's own.
 pub enum Refusal {
@@ -292,27 +292,17 @@ fn check_fields(dict: &[u8], h: metadata::Header, object: &[u8], l: Layer) -> Ou
     check_names(dict, h, object, l)
 }
 
-// What checks 27 and 28 come to for one offset.
-enum Child {
-    Outside,
-    Empty,
-    Inside,
-}
-
-// The child that starts at `offset` of a region of `length` bytes.
-fn judge_child(length: usize, offset: usize) -> Child
-    ensures { λ r. ⌜ ChildSays length offset r ⌝ }
+// Whether a child has no bytes that starts at `offset` of a region of `length` bytes.
+fn is_empty(length: usize, offset: usize) -> bool
+    ensures { λ r. ⌜ Says r (length ≤? offset) ⌝ }
 {
-    if offset < length {
-        return Child::Inside;
+    if length <= offset {
+        return true;
     }
-    if length < offset {
-        return Child::Outside;
-    }
-    Child::Empty
+    false
 }
 
-// Checks 27 and 28, field by field.
+// Checks 27 and 28, field by field. Which of the two it is, is asked only where one of them is due.
 fn check_offsets(object: &[u8], l: Layer) -> Outcome
     requires { ⌜ LayerOf (now object) l ⌝ }
     ensures { λ r. ⌜ foundOf r ≡ first (each (offsetRules (now (object .entry))) (countOf (now (object .entry)))) ⌝ }
@@ -321,18 +311,14 @@ fn check_offsets(object: &[u8], l: Layer) -> Outcome
     let length = l.end - l.start;
     let mut k = 0;
     while k < count {
-        let child = judge_child(length, offset_at(object, l, k));
-        match child {
-            Child::Outside => {
+        let offset = offset_at(object, l, k);
+        if is_empty(length, offset) {
+            if length < offset {
                 return Outcome::Refused(Refusal::Offset(k));
             }
-            Child::Empty => {
-                return Outcome::Refused(Refusal::EmptyChild(k));
-            }
-            Child::Inside => {
-                k += 1;
-            }
+            return Outcome::Refused(Refusal::EmptyChild(k));
         }
+        k += 1;
     }
     Outcome::Pass
 }

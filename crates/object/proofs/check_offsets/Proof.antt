@@ -20,20 +20,18 @@ check-offsets-spec =
     μ-loop
     (λ c. omega arith)  -- sub-length
     (λ c. (omega arith, each-none _))  -- loop-holds
-    (λ c κs. omega arith) (λ c κs. search needs) (λ c. search needs)
+    (λ c κs. omega arith) (λ c κs. search needs)
     (λ c. let l = c .before .before .before .before .before .loop in
     let o = c .before .before .before .before .before .before .before .before .args .object .now in
-    let outside = rw (c .enum-told .given .1) at (c .before .before .judge-child .ensures) in
     sym (each-stop _ (l .k) _ (l .inv .1) (first-at 0 (offsetRules o (l .k)) (omega (arith, start-before o, end-is o))) (omega arith)))  -- returns
-    (λ c. search needs)
     (λ c. let l = c .before .before .before .before .before .loop in
     let o = c .before .before .before .before .before .before .before .before .args .object .now in
-    let empty = rw (c .enum-told2 .given .1) at (c .before .before .judge-child .ensures) in
+    let empty = rw (c .before .if1 .taken) at (c .before .before .is-empty .ensures) in
     sym (each-stop _ (l .k) _ (l .inv .1) (first-at 1 (offsetRules o (l .k)) (omega (arith, start-before o, end-is o))) (omega arith)))  -- returns-2
-    (λ c. search needs) (λ c. omega arith) (λ c. omega arith)
-    (λ c. let l = c .before .before .before .before .before .loop in
-    let o = c .before .before .before .before .before .before .before .before .args .object .now in
-    let inside = rw (c .enum-told3 .given .1) at (c .before .before .judge-child .ensures) in
+    (λ c. omega arith) (λ c. omega arith)
+    (λ c. let l = c .before .before .before .before .loop in
+    let o = c .before .before .before .before .before .before .before .args .object .now in
+    let some = rw (c .if1 .left) at (c .before .is-empty .ensures) in
     (omega arith, each-more _ (l .k) (l .inv .1) ∙ first-pass (offsetRules o (l .k)) (omega (arith, start-before o, end-is o))))  -- loop-again
     (λ c. let l = c .before .loop in
     let all : l .k ≡ countOf (c .before .before .before .before .args .object .now) = omega arith in
