@@ -120,7 +120,8 @@ enum lichenhusk_word_index {
  * nothing is said of it, it is 0. Of several reasons to refuse, the answer is
  * the first in the order in which the bytes are checked: the ends of names
  * before the dictionary, the dictionary before the object, a header before what
- * it describes, and then entry by entry and field by field.
+ * it describes, and then entry by entry and field by field: 25 and 26 of each
+ * field first, and when all are done, 27 and 28 of each.
  */
 enum lichenhusk_code {
     /* Accepted, found, or written. */
@@ -173,6 +174,9 @@ enum lichenhusk_code {
     /* A field's offset is above the length of the children's bytes. The place:
      * the field. */
     LICHENHUSK_OBJECT_OFFSET = 27,
+    /* A field's child has no bytes: its offset is the length of the children's
+     * bytes. The place: the field. Of 27 and 28 the first field's is given. */
+    LICHENHUSK_OBJECT_CHILD_EMPTY = 28,
 
     /* The dictionary has no entry of that number. */
     LICHENHUSK_NO_SUCH_ENTRY = 31,
@@ -205,11 +209,12 @@ static inline uint32_t lichenhusk_word(const uint8_t *strip, enum lichenhusk_wor
  *
  * 0: number is the field (counted from 0 in the object's order), and its child
  *    is the object's bytes from start to end. The end is the object's trimmed
- *    end, so other children may follow within; the child may have no bytes.
- *    id is the field's entry in the dictionary: lichenhusk_name of that entry
- *    gives the bytes of the name that was looked for.
+ *    end, so other children may follow within; start is always below it, so a
+ *    child has a byte at least. id is the field's entry in the dictionary:
+ *    lichenhusk_name of that entry gives the bytes of the name that was looked
+ *    for.
  * 1: there is no such field.
- * Otherwise a refusal: 10 to 19, 20 to 27, or 40.
+ * Otherwise a refusal: 10 to 19, 20 to 28, or 40.
  */
 uint32_t lichenhusk_lookup(const uint8_t *dict, size_t dict_len,
                            const uint8_t *object, size_t object_len,
@@ -228,7 +233,7 @@ uint32_t lichenhusk_lookup(const uint8_t *dict, size_t dict_len,
  *    the order of the names: what lichenhusk_lookup answers to it, that is 0,
  *    field, id, start and end, or 1 and four times 0. Words after these stay as
  *    they are; with no names, that is every word.
- * Otherwise a refusal, which leaves all words: 45, then 10 to 19, 20 to 27, and
+ * Otherwise a refusal, which leaves all words: 45, then 10 to 19, 20 to 28, and
  * 41 after every other; or 40.
  */
 uint32_t lichenhusk_lookup_all(const uint8_t *dict, size_t dict_len,
@@ -261,7 +266,7 @@ uint32_t lichenhusk_name(const uint8_t *dict, size_t dict_len, size_t entry,
  *
  * 0: number is the field count, start is where the children's bytes begin, end
  *    is the object's trimmed end.
- * Otherwise a refusal: 10 to 19, 20 to 27, or 40.
+ * Otherwise a refusal: 10 to 19, 20 to 28, or 40.
  */
 uint32_t lichenhusk_layer(const uint8_t *dict, size_t dict_len,
                           const uint8_t *object, size_t object_len,
@@ -270,9 +275,9 @@ uint32_t lichenhusk_layer(const uint8_t *dict, size_t dict_len,
 /*
  * As lichenhusk_layer, and lists the fields: three words each, in the object's
  * order: the field's id (its entry in the dictionary); where its child starts
- * in the object; the span, the bytes from there to the next larger offset, or
- * 0 where there is none. words_len counts words. Words after these stay as they
- * are, and a refusal leaves them all.
+ * in the object; the span, the bytes from there to the next larger offset. That
+ * is never 0, since the last offset is above every field's. words_len counts
+ * words. Words after these stay as they are, and a refusal leaves them all.
  *
  * 41 comes after every other refusal.
  *

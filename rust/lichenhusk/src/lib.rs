@@ -90,7 +90,7 @@ pub struct Found {
     pub field: usize,
     /// The entry of the dictionary that is its name: [`name`] there gives the bytes looked for.
     pub id: u32,
-    /// Where its child starts in the object.
+    /// Where its child starts in the object: below the end, so that a child has a byte at least.
     pub start: usize,
     /// Where the child ends: at the end of the object's own bytes, for every child.
     pub end: usize,
@@ -110,7 +110,7 @@ pub struct Field {
     pub id: u32,
     /// Where its child starts in the object.
     pub start: usize,
-    /// The bytes from there to the next larger offset; 0 where there is none.
+    /// The bytes from there to the next larger offset: never 0.
     pub span: usize,
 }
 
@@ -183,7 +183,8 @@ pub fn lookup(dict: &[u8], object: &[u8], name: &[u8]) -> Result<Option<Found>, 
 
 /// As [`lookup`], and hands back the child as a part of the object.
 ///
-/// The part lives as long as the object; the dictionary and the name may go before.
+/// The part lives as long as the object; the dictionary and the name may go before. It is never
+/// empty: an object with a child of no bytes is refused.
 ///
 /// ```
 /// let object = *b"\x02\x02\x00\x01\x01\x00\x03\x04\x0C\xFB";
@@ -193,6 +194,10 @@ pub fn lookup(dict: &[u8], object: &[u8], name: &[u8]) -> Result<Option<Found>, 
 ///     lichenhusk::child(&dict, &object, name.as_bytes())?
 /// };
 /// assert_eq!(flow, Some(&[0x0C, 0xFB][..]));
+///
+/// let dict = b"\x11\x02\x00\x04\x08flowroll";
+/// let refused = lichenhusk::child(dict, &[2, 1, 0, 0, 0], b"flow");
+/// assert_eq!(refused, Err(lichenhusk::Refusal::ObjectChildEmpty { field: 0 }));
 /// # Ok::<(), lichenhusk::Refusal>(())
 /// ```
 pub fn child<'object>(

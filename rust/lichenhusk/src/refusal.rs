@@ -8,7 +8,8 @@ use std::fmt;
 ///
 /// Of several reasons to refuse, the one given is the first in the order in which bytes are
 /// checked: the ends of names before the dictionary, the dictionary before the object, a header
-/// before what it describes, and then entry by entry and field by field.
+/// before what it describes, and then entry by entry and field by field: 25 and 26 of each field
+/// first, and when all are done, 27 and 28 of each.
 ///
 /// ```
 /// let refusal = lichenhusk::dictionary(&[1, 1, 0, 1, 0xFF]).unwrap_err();
@@ -84,7 +85,12 @@ pub enum Refusal {
     },
     /// 27: a field's offset is above the length of the children's bytes.
     ObjectOffset {
-        /// The first such field.
+        /// The first such field, with none before it that gets 28.
+        field: u32,
+    },
+    /// 28: a field's child has no bytes, since its offset is the length of the children's bytes.
+    ObjectChildEmpty {
+        /// The first such field, with none before it that gets 27.
         field: u32,
     },
     /// 31: the dictionary has no entry of that number.
@@ -135,6 +141,7 @@ impl Refusal {
             25 => ObjectId { field: place },
             26 => ObjectOrder { field: place },
             27 => ObjectOffset { field: place },
+            28 => ObjectChildEmpty { field: place },
             31 => NoSuchEntry,
             40 => StripTooShort,
             41 => WordsTooFew,
@@ -177,6 +184,7 @@ impl Refusal {
             ObjectId { .. } => 25,
             ObjectOrder { .. } => 26,
             ObjectOffset { .. } => 27,
+            ObjectChildEmpty { .. } => 28,
             NoSuchEntry => 31,
             StripTooShort => 40,
             WordsTooFew => 41,
@@ -190,7 +198,8 @@ impl Refusal {
         match self {
             DictionaryNotUtf8 { prefix } | DictionaryTextCut { prefix } => prefix,
             DictionaryEntry { entry } | DictionaryOrder { entry } => entry,
-            ObjectId { field } | ObjectOrder { field } | ObjectOffset { field } => field,
+            ObjectId { field } | ObjectOrder { field } => field,
+            ObjectOffset { field } | ObjectChildEmpty { field } => field,
             NamesEnd { name } => name,
             _ => 0,
         }
@@ -251,6 +260,10 @@ impl fmt::Display for Refusal {
             ObjectOffset { field } => write!(
                 to,
                 "the offset of the object's field {field} is above the length of the children's bytes"
+            ),
+            ObjectChildEmpty { field } => write!(
+                to,
+                "the child of the object's field {field} has no bytes: its offset is the length of the children's bytes"
             ),
             NoSuchEntry => write!(to, "the dictionary has no entry of that number"),
             StripTooShort => write!(to, "the strip is shorter than {STRIP_BYTES} bytes"),

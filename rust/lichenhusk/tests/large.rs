@@ -123,12 +123,13 @@ fn a_name_that_ends_with_the_longest_dictionary() {
     }
 }
 
-/// An object of so many bytes over D, with offsets of a width: the child of "flow" has no bytes and
-/// stands at the very end, that of "roll" has the last byte.
-fn of_last_children(length: usize, width: usize) -> Vec<u8> {
+/// An object of so many bytes over D, with offsets of a width: the children of "flow" and "roll"
+/// have the last so many bytes.
+fn of_last_children(length: usize, width: usize, lasts: [usize; 2]) -> Vec<u8> {
     let mut object = vec![0x02 | (width as u8 - 1) << 2, 2, 0, 1];
     let region = length - object.len() - 3 * width;
-    put(&mut object, width, [region, region - 1, region]);
+    put(&mut object, width, lasts.map(|last| region - last));
+    put(&mut object, width, [region]);
     object.extend(vec![0; region]);
     object
 }
@@ -137,7 +138,7 @@ fn of_last_children(length: usize, width: usize) -> Vec<u8> {
 fn children_that_end_with_the_longest_object() {
     let dict = hex(D);
     for width in [3, 4] {
-        let object = of_last_children(LIMIT, width);
+        let object = of_last_children(LIMIT, width, [1, 2]);
         let layer = Layer {
             fields: 2,
             region: 4 + 3 * width,
@@ -150,7 +151,7 @@ fn children_that_end_with_the_longest_object() {
             start,
             end: LIMIT,
         };
-        let (flow, roll) = (last(0, LIMIT), last(1, LIMIT - 1));
+        let (flow, roll) = (last(0, LIMIT - 1), last(1, LIMIT - 2));
         assert_eq!(lichenhusk::lookup(&dict, &object, b"flow"), Ok(Some(flow)));
         assert_eq!(lichenhusk::lookup(&dict, &object, b"roll"), Ok(Some(roll)));
         assert_eq!(
@@ -160,18 +161,33 @@ fn children_that_end_with_the_longest_object() {
         let [flow, roll] = Message::new(&dict, &object)
             .children(["flow", "roll"])
             .unwrap();
-        assert_eq!((flow, roll), (Some(&[][..]), Some(&object[LIMIT - 1..])));
+        assert_eq!(flow, Some(&object[LIMIT - 1..]));
+        assert_eq!(roll, Some(&object[LIMIT - 2..]));
         let mut words = [7; 6];
         assert_eq!(lichenhusk::list_into(&dict, &object, &mut words), Ok(layer));
-        assert_eq!(words, [0, LIMIT as u32, 0, 1, LIMIT as u32 - 1, 1]);
+        assert_eq!(words, [0, LIMIT as u32 - 1, 1, 1, LIMIT as u32 - 2, 1]);
         assert_eq!(
             lichenhusk::layer(&dict, &object[..LIMIT - 1]),
             Err(Refusal::ObjectShort)
         );
         assert_eq!(
-            lichenhusk::layer(&dict, &of_last_children(LIMIT + 1, width)),
+            lichenhusk::layer(&dict, &of_last_children(LIMIT + 1, width, [1, 2])),
             Err(Refusal::ObjectTooLong)
         );
+    }
+}
+
+/// A child that would begin where the longest object ends.
+#[test]
+fn no_child_after_the_longest_object() {
+    for width in [3, 4] {
+        for (lasts, field) in [([0, 1], 0), ([1, 0], 1)] {
+            let object = of_last_children(LIMIT, width, lasts);
+            let begins = format!("Err({:?})", Refusal::ObjectChildEmpty { field });
+            let answers = answers(&hex(D), &object);
+            let mut of_object = answers[2..].iter();
+            assert!(of_object.all(|answer| answer.starts_with(&begins)));
+        }
     }
 }
 
@@ -179,8 +195,8 @@ fn children_that_end_with_the_longest_object() {
 #[test]
 fn the_strip_of_an_end_at_the_limit() {
     let mut bytes = [0xEE; STRIP_BYTES];
-    let object = of_last_children(LIMIT, 3);
-    assert_eq!(raw::lookup(&hex(D), &object, b"roll", &mut bytes), 0);
+    let object = of_last_children(LIMIT, 3, [1, 2]);
+    assert_eq!(raw::lookup(&hex(D), &object, b"flow", &mut bytes), 0);
     assert_eq!(
         bytes[12..20],
         [0xFF, 0xFF, 0xFF, 0x00, 0x00, 0x00, 0x00, 0x01]
@@ -264,5 +280,9 @@ fn places_of_more_than_two_bytes() {
         with(offsets, MANY + 1),
         Err(Refusal::ObjectOffset { field })
     );
-    assert!(with(offsets, MANY).is_ok());
+    assert_eq!(
+        with(offsets, MANY),
+        Err(Refusal::ObjectChildEmpty { field })
+    );
+    assert!(with(offsets, MANY - 1).is_ok());
 }

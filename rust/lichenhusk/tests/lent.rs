@@ -8,6 +8,9 @@ use lichenhusk::{LIMIT, STRIP_BYTES, Strip, raw};
 /// What a strip holds before a call, so that a byte that was not written shows.
 const BEFORE: u8 = 0xEE;
 
+/// An object over D whose second child has no bytes.
+const CHILD_EMPTY: &str = "02 02 00 01 00 01 01 00";
+
 /// A call that fills a strip, and its name for messages.
 type Call = (&'static str, fn(&mut [u8]) -> u32);
 
@@ -130,6 +133,10 @@ fn every_word_of_absence_and_of_a_placed_refusal() {
         [26, 0, 0, 0, 0, 1]
     );
     assert_eq!(
+        words_of(|strip| raw::lookup(&hex(D), &hex(CHILD_EMPTY), b"flow", strip)),
+        [28, 0, 0, 0, 0, 1]
+    );
+    assert_eq!(
         words_of(|strip| raw::name(&hex(D), 2, strip)),
         [31, 0, 0, 0, 0, 0]
     );
@@ -182,6 +189,7 @@ fn a_refusal_leaves_the_words() {
     refused(45, &dict, &object, &[4, 3], 10);
     refused(12, &[2], &object, &[4], 5);
     refused(22, &dict, &[0], &[4], 5);
+    refused(28, &dict, &hex(CHILD_EMPTY), &[4], 5);
     refused(41, &dict, &object, &[4], 4);
 }
 

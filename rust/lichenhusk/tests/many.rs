@@ -111,7 +111,7 @@ fn bytes_after_the_last_end() {
 /// Without names it is the layer's verdict, and the words stay.
 #[test]
 fn no_names() {
-    for object in [P, "02 00 00", "", "00", "02 01 02 00 00"] {
+    for object in [P, "02 00 00", "", "00", "02 01 02 00 00", "02 01 00 00 00"] {
         let layer = lichenhusk::layer(&hex(D), &hex(object));
         let (answer, words) = asked(&hex(object), b"ignored", &[]);
         assert_eq!(answer, layer);
@@ -158,6 +158,7 @@ fn ends_before_the_dictionary_and_the_object() {
         (D, ""),
         (D, "00"),
         (D, "02 01 02 00 00"),
+        (D, "02 01 00 00 00"),
     ] {
         assert_eq!(verdict(dict, object, b"flow", &[5]), names_end(0));
         assert_eq!(verdict(dict, object, b"flow", &[4, 3]), names_end(1));
@@ -177,8 +178,10 @@ fn too_few_words_come_last() {
     assert_eq!(refusal(D, P, &[5]), Refusal::NamesEnd { name: 0 });
     assert_eq!(refusal("02", P, &[4]), Refusal::DictionaryVersion);
     assert_eq!(refusal(D, "00", &[4]), Refusal::ObjectType);
-    let last = Refusal::ObjectOffset { field: 0 };
-    assert_eq!(refusal(D, "02 01 00 02 01 00", &[4]), last);
+    let past = Refusal::ObjectOffset { field: 0 };
+    assert_eq!(refusal(D, "02 01 00 02 01 00", &[4]), past);
+    let empty = Refusal::ObjectChildEmpty { field: 0 };
+    assert_eq!(refusal(D, "02 01 00 01 01 00", &[4]), empty);
     assert_eq!(refusal(D, P, &[4]), Refusal::WordsTooFew);
 }
 
@@ -265,7 +268,8 @@ fn the_children_of_a_message() {
 #[test]
 fn a_message_is_the_functions() {
     let dict = hex(D);
-    for object in [hex(P), hex("02 01 00 00 00"), hex("00")] {
+    for object in [P, "02 01 00 00 01 00", "02 01 00 00 00", "00"] {
+        let object = hex(object);
         let message = Message::new(&dict, &object);
         assert_eq!(message.layer(), lichenhusk::layer(&dict, &object));
         assert_eq!(message.list(), lichenhusk::list(&dict, &object));

@@ -86,6 +86,12 @@ fn rows() -> Vec<Row> {
             1,
             hex("02 02 00 01 00 02 01 00"),
         ),
+        of_object(
+            ObjectChildEmpty { field: 1 },
+            28,
+            1,
+            hex("02 02 00 01 00 01 01 00"),
+        ),
     ]
 }
 
@@ -187,7 +193,7 @@ fn numbers_and_cases_match() {
         .filter(|&number| Refusal::of(number, 5).is_some())
         .collect();
     let all: Vec<u32> = (10..=19)
-        .chain(20..=27)
+        .chain(20..=28)
         .chain([31])
         .chain(40..=42)
         .chain([45])
@@ -196,7 +202,7 @@ fn numbers_and_cases_match() {
     for number in all {
         let refusal = Refusal::of(number, 5).unwrap();
         assert_eq!(refusal.number(), number);
-        let has_place = matches!(number, 16..=19 | 25..=27 | 45);
+        let has_place = matches!(number, 16..=19 | 25..=28 | 45);
         assert_eq!(refusal.place(), if has_place { 5 } else { 0 });
         assert_eq!(
             Refusal::of(refusal.number(), refusal.place()),
@@ -222,7 +228,7 @@ fn each_says_what_it_is() {
         }
         assert!(seen.insert(words.to_string()), "{text}");
     }
-    assert_eq!(seen.len(), 23);
+    assert_eq!(seen.len(), 24);
     for refusal in [Refusal::DictionaryTooLong, Refusal::ObjectTooLong] {
         let text = refusal.to_string();
         assert!(text.ends_with("is longer than 16777216 bytes"), "{text}");

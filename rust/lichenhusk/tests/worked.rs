@@ -189,12 +189,69 @@ fn small_objects() {
             end: 3
         })
     );
-    assert_eq!(lookup("02 01 00 00 00", "flow"), found(0, 0, 5, 5));
-    let object = hex("02 01 00 00 00");
+    let object = hex("02 01 00 00 01 00");
+    assert_eq!(lookup("02 01 00 00 01 00", "flow"), found(0, 0, 5, 6));
     let child = lichenhusk::child(&hex(D), &object, b"flow").unwrap();
-    let child = child.expect("an empty child is a child");
-    assert!(child.is_empty());
+    let child = child.expect("a child of one byte is a child");
+    assert_eq!(child, [0]);
     assert_eq!(child.as_ptr(), object[5..].as_ptr());
+}
+
+fn child_empty<T>(field: u32) -> Result<T, Refusal> {
+    Err(Refusal::ObjectChildEmpty { field })
+}
+
+/// Request e): such an object is refused whichever name is asked for, and no child is handed back.
+#[test]
+fn children_of_no_bytes() {
+    for object in ["02 01 00 00 00", "02 01 00 01 01 00"] {
+        assert_eq!(layer(object), child_empty(0));
+        let bytes = hex(object);
+        for name in ["flow", "roll", "rol"] {
+            assert_eq!(lookup(object, name), child_empty(0));
+            let child = lichenhusk::child(&hex(D), &bytes, name.as_bytes());
+            assert_eq!(child, child_empty(0));
+        }
+    }
+}
+
+/// Of 27 and 28 the first field's is given, whichever of the two it is.
+#[test]
+fn children_of_no_bytes_field_by_field() {
+    let past = |field| Err(Refusal::ObjectOffset { field });
+    let both = |first: u8, second: u8| {
+        let object = [2, 2, 0, 1, first, second, 1, 0];
+        lichenhusk::layer(&hex(D), &object).map(|layer| layer.fields)
+    };
+    assert_eq!(both(1, 2), child_empty(0));
+    assert_eq!(both(2, 1), past(0));
+    assert_eq!(both(0, 1), child_empty(1));
+    assert_eq!(both(1, 0), child_empty(0));
+    assert_eq!(both(1, 1), child_empty(0));
+    assert_eq!(both(0, 2), past(1));
+    assert_eq!(both(2, 0), past(0));
+    assert_eq!(both(2, 2), past(0));
+    assert_eq!(both(0, 0), Ok(2), "two fields share a child of one byte");
+}
+
+/// Ids and names of all fields are looked at before any offset.
+#[test]
+fn children_of_no_bytes_after_ids_and_names() {
+    assert_eq!(
+        layer("02 02 00 02 01 00 01 00"),
+        Err(Refusal::ObjectId { field: 1 })
+    );
+    assert_eq!(
+        layer("02 02 01 00 01 00 01 00"),
+        Err(Refusal::ObjectOrder { field: 1 })
+    );
+}
+
+/// An end in the middle of the bytes: what comes after it is no byte of a child.
+#[test]
+fn children_of_no_bytes_before_other_bytes() {
+    assert_eq!(layer("02 01 00 00 00 0C FB"), child_empty(0));
+    assert_eq!(layer("02 01 00 01 01 00 0C FB"), child_empty(0));
 }
 
 #[test]
@@ -212,7 +269,7 @@ fn objects_of_bad_ids() {
 
 #[test]
 fn objects_of_offsets_at_the_end() {
-    assert_eq!(lookup("02 01 00 01 01 00", "flow"), found(0, 0, 6, 6));
+    assert_eq!(lookup("02 01 00 01 02 00 00", "flow"), found(0, 0, 6, 7));
     assert_eq!(
         layer("02 01 00 02 01 00"),
         Err(Refusal::ObjectOffset { field: 0 })
