@@ -10,7 +10,10 @@
 //! exactly what `get` yields, with an id whose entry is the query, stands where the Rust reads the
 //! field's name and, in a sorted dictionary, is the one that `get_entry` finds; so does the row of
 //! the same name among all that are looked for. The same is asked of a copy with children that the
-//! Rust accepts (see [`traced`]), which gives a verdict on the layer alone, and places.
+//! Rust accepts wherever they have bytes (see [`traced`]), which gives a verdict on the layer alone,
+//! and places: the copy is accepted exactly when our layer is, and of the reasons to refuse it the
+//! Rust gives the same one first. So no layer of ours that is accepted has a child of no bytes, and
+//! 27 and 28 are told apart by the Rust's words; at which field, by [`bad_offsets`].
 //!
 //! Of our own answers besides: each function gives the same refusal; an accepted layer's numbers
 //! are those of its header; a listing's spans are those of its starts; a lookup's id is the
@@ -26,8 +29,8 @@
 
 use crate::many::Many;
 use crate::original::{
-    dictionary_number, may_be_object_number, place_in, same_value, traced, traced_start,
-    utf8_error, words,
+    dictionary_number, may_be_layer_number, may_be_object_number, place_in, same_value, traced,
+    traced_start, utf8_error, words,
 };
 use crate::ours::{Reader, absent, accepted, found, refused};
 use crate::reading::{DictionaryParts, ObjectParts};
@@ -35,6 +38,7 @@ use crate::tally::Tally;
 use crate::{Input, LARGE, shown};
 use lichenhusk::{Field, LIMIT, OK, Strip, WORDS_PER_FIELD};
 use parquet_variant::{Variant, VariantMetadata, VariantObject};
+use std::cmp::Ordering;
 use std::fmt::{self, Debug};
 
 /// How many entries, or fields, of an input of so many bytes are asked for by name or number; of
@@ -243,6 +247,24 @@ fn names(
     Ok(())
 }
 
+/// The fields whose children have no bytes, as they would be refused: 27 past the region, 28 at its
+/// end. The first of them is what is due, if ids and names are good.
+pub fn bad_offsets(object: &[u8]) -> impl Iterator<Item = Strip> {
+    let parts = ObjectParts::of(object);
+    let region = parts.and_then(|parts| Some((parts.offsets, parts.region(object)?.len())));
+    region.into_iter().flat_map(move |(offsets, length)| {
+        let fields = 0..offsets.count - 1;
+        fields.filter_map(move |field| {
+            let number = match offsets.number(object, field)?.cmp(&length) {
+                Ordering::Less => return None,
+                Ordering::Equal => 28,
+                Ordering::Greater => 27,
+            };
+            Some(refused(number, field as u32))
+        })
+    })
+}
+
 /// Compares what can be asked of an object over a dictionary.
 pub fn object(
     reader: &impl Reader,
@@ -333,34 +355,47 @@ impl<'d, R: Reader> Pair<'_, 'd, R> {
         if !may_be_object_number(&error, layer.code) {
             return differ("the reason to refuse an object", layer, error);
         }
-        if layer.code < 25 {
-            agree("the place of a refusal that has none", layer.place, 0)?;
-        }
-        if let Some(copy) = traced(self.bytes) {
-            if self.theirs(&copy).is_ok() {
-                return differ("the layer alone", layer, "accepts");
-            }
-            tally.traced += 1;
+        match traced(self.bytes) {
+            Some(copy) => self.refused_alone(&copy, tally)?,
+            None if layer.code > 24 => return differ("what is cut", layer, error),
+            None => agree("the place of a refusal that has none", layer.place, 0)?,
         }
         Tally::refuse(&mut tally.objects_refused, layer.code);
         tally.large_objects_refused += is_large(self.bytes);
         same_refusal(self.reader, self.dict, self.bytes, layer, tally)
     }
 
+    /// The layer alone is refused for the same reason, and the first field whose child has no bytes
+    /// is the place.
+    fn refused_alone(&self, copy: &[u8], tally: &mut Tally) -> Compared {
+        let layer = self.layer;
+        let Err(error) = VariantObject::try_new(self.metadata.clone(), copy) else {
+            return differ("the layer alone", layer, "accepts");
+        };
+        if !may_be_layer_number(&error, layer.code) {
+            return differ("the reason to refuse the layer alone", layer, error);
+        }
+        if layer.code > 26 {
+            let first = bad_offsets(self.bytes).next();
+            agree("the first field without bytes", Some(layer), first)?;
+        }
+        tally.traced += 1;
+        Ok(())
+    }
+
     fn accepted(&self, query: Option<&[u8]>, tally: &mut Tally) -> Compared {
         self.numbers()?;
+        self.have_bytes()?;
         let fields = self.placed()?;
         let lookups = self.lookups(&fields, query)?;
-        let whole = self.whole(&fields, &lookups, tally)?;
-        let alone = self.alone(&fields, &lookups, tally)?;
+        self.whole(&fields, &lookups, tally)?;
+        self.alone(&fields, &lookups, tally)?;
         self.ids(&fields, &lookups)?;
         self.many().accepted(&lookups, tally)?;
-        if whole || alone {
-            tally.fields += fields.len() as u64;
-            tally.large_objects += is_large(self.bytes);
-            tally.together += lookups.len() as u64;
-            lookups.iter().for_each(|lookup| lookup.count(tally));
-        }
+        tally.fields += fields.len() as u64;
+        tally.large_objects += is_large(self.bytes);
+        tally.together += lookups.len() as u64;
+        lookups.iter().for_each(|lookup| lookup.count(tally));
         Ok(())
     }
 
@@ -383,6 +418,14 @@ impl<'d, R: Reader> Pair<'_, 'd, R> {
         let start = parts.offsets.end();
         let numbers = accepted(parts.ids.count, start, start + region.len());
         agree("a layer's numbers", self.layer, numbers)
+    }
+
+    /// Each child of an accepted layer has bytes, whether the Rust accepts what they say or not.
+    fn have_bytes(&self) -> Compared {
+        match bad_offsets(self.bytes).next() {
+            None => Ok(()),
+            Some(due) => differ("a layer with a child of no bytes", self.layer, due),
+        }
     }
 
     /// Whether an id is that of a field whose name was looked for: its entry is the name, and stands
@@ -462,8 +505,8 @@ impl<'d, R: Reader> Pair<'_, 'd, R> {
         borders.sort_unstable();
         for field in fields {
             let above = borders.partition_point(|&border| border <= field.start);
-            let span = borders.get(above).map_or(0, |border| border - field.start);
-            agree("a field's span", field.span, span)?;
+            let span = borders.get(above).map(|border| border - field.start);
+            agree("a field's span", Some(field.span), span)?;
         }
         Ok(())
     }
@@ -509,8 +552,7 @@ impl<'d, R: Reader> Pair<'_, 'd, R> {
     }
 
     /// The object as it is: accepted exactly when each child is, and then the same throughout.
-    /// True if it is accepted.
-    fn whole(&self, fields: &[Placed], lookups: &[Lookup], tally: &mut Tally) -> Compared<bool> {
+    fn whole(&self, fields: &[Placed], lookups: &[Lookup], tally: &mut Tally) -> Compared {
         let end = self.layer.end as usize;
         let children = fields.iter().all(|field| self.value(field.start).is_some());
         let theirs = self.theirs(self.bytes);
@@ -520,8 +562,7 @@ impl<'d, R: Reader> Pair<'_, 'd, R> {
         }
         let Ok(theirs) = theirs else {
             tally.child_refused += 1;
-            tally.child_empty += u64::from(fields.iter().any(|field| field.start == end));
-            return Ok(false);
+            return Ok(());
         };
         agree("the trimmed end", end, theirs.value.len())?;
         let is_at = |value: &Variant, start: usize| {
@@ -531,7 +572,7 @@ impl<'d, R: Reader> Pair<'_, 'd, R> {
         self.fields(&theirs, fields, is_at)?;
         self.gets(&theirs, lookups, is_at)?;
         tally.objects += 1;
-        Ok(true)
+        Ok(())
     }
 
     /// The value that the Rust reads from a place of ours to the trimmed end.
@@ -540,23 +581,19 @@ impl<'d, R: Reader> Pair<'_, 'd, R> {
         Variant::try_new_with_metadata(self.metadata.clone(), child).ok()
     }
 
-    /// The layer alone, by a copy with children that tell where they are. True if there can be
-    /// such a copy.
-    fn alone(&self, fields: &[Placed], lookups: &[Lookup], tally: &mut Tally) -> Compared<bool> {
-        let Some(copy) = traced(self.bytes) else {
-            return Ok(false);
-        };
+    /// The layer alone, by a copy with children that tell where they are.
+    fn alone(&self, fields: &[Placed], lookups: &[Lookup], tally: &mut Tally) -> Compared {
+        let copy = traced(self.bytes).expect("all parts, since its numbers are theirs");
         let theirs = match self.theirs(&copy) {
             Ok(theirs) => theirs,
             Err(error) => return differ("the layer alone", self.layer, error),
         };
-        let end = theirs.value.len() - 1;
-        agree("the trimmed end", self.layer.end as usize, end)?;
+        agree("the trimmed end", self.layer.end as usize, copy.len())?;
         let is_at = |value: &Variant, start: usize| traced_start(value, &copy) == Some(start);
         self.fields(&theirs, fields, is_at)?;
         self.gets(&theirs, lookups, is_at)?;
         tally.traced += 1;
-        Ok(true)
+        Ok(())
     }
 
     /// Names in field order by our ids, and each field's value by its start.

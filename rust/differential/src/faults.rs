@@ -1,9 +1,11 @@
 //! Readers that are wrong on purpose, to see that the comparison tells.
 
 use crate::LARGE;
+use crate::compare::bad_offsets;
 use crate::many::bad_ends;
 use crate::ours::{Reader, absent, accepted, found, refused};
-use lichenhusk::{ABSENT, OK, Strip, WORDS_PER_NAME};
+use crate::reading::ObjectParts;
+use lichenhusk::{ABSENT, OK, Strip, WORDS_PER_FIELD, WORDS_PER_NAME};
 
 /// What a wrong reader does wrong.
 #[derive(Clone, Copy, Debug, PartialEq, Eq)]
@@ -90,8 +92,18 @@ pub enum Fault {
     TakesAnyType,
     /// Refuses an object in which two fields share a child.
     NoSharedChildren,
-    /// Refuses an object with a child of no bytes.
-    NoEmptyChildren,
+    /// Takes children of no bytes, in every call, as it was before 28.
+    TakesEmptyChildren,
+    /// Takes them where the first such field's offset is not the next one.
+    EmptyByNextOffset,
+    /// Says 28 where an offset is past the region.
+    PastIsEmpty,
+    /// Says 27 of any field before 28 of the first.
+    PastBeforeEmpty,
+    /// Says 28 at the last field whose child has no bytes.
+    LastEmptyChild,
+    /// Refuses an object with a child of one byte.
+    NoShortChildren,
     /// Lists nothing and says that it did.
     ListsNothing,
     /// Lists spans of 0.
@@ -121,7 +133,7 @@ pub enum Fault {
 }
 
 /// Every fault.
-pub const ALL: [Fault; 55] = [
+pub const ALL: [Fault; 60] = [
     Fault::AlwaysShort,
     Fault::AbsentIsFound,
     Fault::AlwaysAbsent,
@@ -163,7 +175,12 @@ pub const ALL: [Fault; 55] = [
     Fault::TakesAnyFields,
     Fault::TakesAnyType,
     Fault::NoSharedChildren,
-    Fault::NoEmptyChildren,
+    Fault::TakesEmptyChildren,
+    Fault::EmptyByNextOffset,
+    Fault::PastIsEmpty,
+    Fault::PastBeforeEmpty,
+    Fault::LastEmptyChild,
+    Fault::NoShortChildren,
     Fault::ListsNothing,
     Fault::NoSpans,
     Fault::WrongIds,
@@ -189,6 +206,30 @@ fn with_places(strip: Strip, bits: usize) -> Strip {
         start: strip.start & bits as u32,
         end: strip.end & bits as u32,
         ..strip
+    }
+}
+
+/// A copy of an object with a byte more at its end, so that a child of no bytes has one; nothing
+/// where the last offset has no room for that.
+fn longer(object: &[u8]) -> Option<Vec<u8>> {
+    let parts = ObjectParts::of(object)?;
+    let length = parts.region(object)?.len() + 1;
+    let mut copy = object[..parts.offsets.end()].to_vec();
+    let last = parts.offsets.count - 1;
+    parts.offsets.write(&mut copy, last, length);
+    copy.resize(copy.len() + length, 0);
+    (length <= parts.offsets.greatest()).then_some(copy)
+}
+
+/// The answer to an object before 28, by that to its [`longer`] copy.
+fn before_28(strip: Strip) -> Strip {
+    match strip.code {
+        OK => Strip {
+            end: strip.end - 1,
+            ..strip
+        },
+        28 => refused(27, strip.place),
+        _ => strip,
     }
 }
 
@@ -235,17 +276,45 @@ impl<R: Reader> Faulty<R> {
         }
     }
 
+    /// The copy of an object that a fault reads in its place, where it takes a child of no bytes.
+    fn taken(&self, dict: &[u8], object: &[u8]) -> Option<Vec<u8>> {
+        let takes = match self.fault {
+            Fault::TakesEmptyChildren => true,
+            Fault::EmptyByNextOffset => {
+                let first = bad_offsets(object).next()?.place as usize;
+                let offsets = ObjectParts::of(object)?.offsets;
+                offsets.number(object, first) != offsets.number(object, first + 1)
+            }
+            _ => false,
+        };
+        (takes && self.reader.layer(dict, object).code == 28)
+            .then(|| longer(object))
+            .flatten()
+    }
+
+    /// A fault in what is refused of an object.
+    fn wrong_refused(&self, object: &[u8], strip: Strip) -> Strip {
+        let mut bad = bad_offsets(object);
+        let other = match (self.fault, strip.code) {
+            (Fault::PastIsEmpty, 27) => Some(refused(28, strip.place)),
+            (Fault::PastBeforeEmpty, 28) => bad.find(|other| other.code == 27),
+            (Fault::LastEmptyChild, 28) => bad.filter(|other| other.code == 28).last(),
+            _ => None,
+        };
+        other.unwrap_or_else(|| self.wrong(strip))
+    }
+
     /// The fields' starts, of an object that is accepted.
     fn starts(&self, dict: &[u8], object: &[u8]) -> Vec<u32> {
         let fields = self.reader.layer(dict, object).number as usize;
-        let mut words = vec![0; lichenhusk::WORDS_PER_FIELD * fields];
+        let mut words = vec![0; WORDS_PER_FIELD * fields];
         self.reader.list(dict, object, &mut words);
         words.chunks_exact(3).map(|field| field[1]).collect()
     }
 
     fn wrong_layer(&self, dict: &[u8], object: &[u8], strip: Strip) -> Strip {
         if strip.code != OK {
-            return self.wrong(strip);
+            return self.wrong_refused(object, strip);
         }
         let (fields, region) = (strip.number as usize, strip.start as usize);
         let end = strip.end as usize;
@@ -263,8 +332,10 @@ impl<R: Reader> Faulty<R> {
                     false => strip,
                 }
             }
-            Fault::NoEmptyChildren if self.starts(dict, object).contains(&strip.end) => {
-                refused(27, 0)
+            Fault::NoShortChildren => {
+                let starts = self.starts(dict, object);
+                let short = starts.iter().position(|start| start + 1 == strip.end);
+                short.map_or(strip, |field| refused(28, field as u32))
             }
             _ => self.wrong(strip),
         }
@@ -354,10 +425,16 @@ impl<R: Reader> Reader for Faulty<R> {
     }
 
     fn layer(&self, dict: &[u8], object: &[u8]) -> Strip {
+        if let Some(taken) = self.taken(dict, object) {
+            return before_28(self.reader.layer(dict, &taken));
+        }
         self.wrong_layer(dict, object, self.reader.layer(dict, object))
     }
 
     fn lookup(&self, dict: &[u8], object: &[u8], name: &[u8]) -> Strip {
+        if let Some(taken) = self.taken(dict, object) {
+            return before_28(self.reader.lookup(dict, &taken, name));
+        }
         let strip = self.reader.lookup(dict, object, name);
         let (field, id) = (strip.number as usize, strip.id as usize);
         let (start, end) = (strip.start, strip.end as usize);
@@ -387,7 +464,7 @@ impl<R: Reader> Reader for Faulty<R> {
                 let next = starts.into_iter().filter(|&other| other > start).min();
                 found(field, id, from, next.map_or(end, |next| next as usize))
             }
-            _ => self.wrong(strip),
+            _ => self.wrong_refused(object, strip),
         }
     }
 
@@ -395,6 +472,14 @@ impl<R: Reader> Reader for Faulty<R> {
         let room = words.len();
         if self.fault == Fault::ListsNothing {
             return self.reader.list(dict, object, &mut words.to_vec());
+        }
+        if let Some(taken) = self.taken(dict, object) {
+            let strip = self.reader.list(dict, &taken, words);
+            let (fields, _) = words.as_chunks_mut::<WORDS_PER_FIELD>();
+            let ends = |[_, start, span]: &&mut [u32; WORDS_PER_FIELD]| *start + *span == strip.end;
+            let listed = fields.iter_mut().take(strip.number as usize);
+            listed.filter(ends).for_each(|[.., span]| *span -= 1);
+            return before_28(strip);
         }
         let strip = self.wrong_layer(dict, object, self.reader.list(dict, object, words));
         let listed = room.min(3 * strip.number as usize);
@@ -420,6 +505,14 @@ impl<R: Reader> Reader for Faulty<R> {
     ) -> Strip {
         if let Some(strip) = self.wrong_refusal(dict, run, ends, words.len()) {
             return strip;
+        }
+        if let Some(taken) = self.taken(dict, object) {
+            let strip = self.reader.lookup_all(dict, &taken, run, ends, words);
+            let (rows, _) = words.as_chunks_mut::<WORDS_PER_NAME>();
+            let found = rows.iter_mut().take(ends.len());
+            let found = found.filter(|row| strip.code == OK && row[0] == OK);
+            found.for_each(|[.., end]| *end -= 1);
+            return before_28(strip);
         }
         let (lent, ends) = (words.to_vec(), self.wrong_ends(run, ends));
         let strip = self.reader.lookup_all(dict, object, run, &ends, words);

@@ -37,45 +37,58 @@ pub fn of_length(length: usize) -> impl Iterator<Item = Input> {
         .chain(long_objects(length))
 }
 
-/// The worked cases of document 01, and request b)'s.
+/// The dictionaries of document 01's worked cases, and request b)'s.
+const WORKED_DICTIONARIES: [&[u8]; 14] = [
+    b"",
+    b"\x01\x00\x00",
+    b"\x01\x00",
+    b"\x02\x00\x00",
+    b"\xC1\xFD\xFF\xFF\x3F",
+    b"\xC1\xFE\xFF\xFF\x3F",
+    b"\x01\x00\x01",
+    b"\x01\x01\x00\x01\xFF",
+    b"\x01\x01\x00\x01\xC3",
+    b"\x01\x02\x00\x01\x02\xC3\xA9",
+    b"\x01\x03\x00\x02\x01\x02ab",
+    b"\x11\x02\x00\x01\x02aa",
+    b"\x01\x02\x00\x01\x02aa",
+    b"\x11\x02\x00\x00\x01a",
+];
+
+/// The objects of document 01's worked cases, and request e)'s: children of no bytes and of one,
+/// before and after offsets that are past the region.
+const WORKED_OBJECTS: [&[u8]; 21] = [
+    b"",
+    OBJECT,
+    b"\x02\x02\x00\x01\x01\x00\x03\x04\x0C",
+    b"\x00",
+    b"\x02\x00\x00",
+    b"\x02\x01\x00\x00\x00",
+    b"\x02\x01\x02\x00\x00",
+    b"\x02\x02\x01\x00\x00\x00\x00",
+    b"\x02\x02\x00\x00\x00\x00\x00",
+    b"\x02\x01\x00\x01\x01\x00",
+    b"\x02\x01\x00\x02\x01\x00",
+    b"\x02\x01\x00\x00\x01\x00",
+    b"\x02\x02\x00\x01\x01\x02\x01\x00",
+    b"\x02\x02\x00\x01\x02\x01\x01\x00",
+    b"\x02\x02\x00\x01\x00\x01\x01\x00",
+    b"\x02\x02\x00\x01\x01\x00\x01\x00",
+    b"\x02\x02\x00\x01\x01\x01\x01\x00",
+    b"\x02\x02\x00\x01\x00\x00\x01\x00",
+    b"\x02\x02\x00\x01\x00\x02\x01\x00",
+    b"\x7E\xFE\xFF\xFF\x1F",
+    b"\x7E\xFF\xFF\xFF\x1F",
+];
+
+/// The worked cases of document 01, and those of requests b) and e).
 fn worked() -> Vec<Input> {
-    let dictionaries: [&[u8]; 14] = [
-        b"",
-        b"\x01\x00\x00",
-        b"\x01\x00",
-        b"\x02\x00\x00",
-        b"\xC1\xFD\xFF\xFF\x3F",
-        b"\xC1\xFE\xFF\xFF\x3F",
-        b"\x01\x00\x01",
-        b"\x01\x01\x00\x01\xFF",
-        b"\x01\x01\x00\x01\xC3",
-        b"\x01\x02\x00\x01\x02\xC3\xA9",
-        b"\x01\x03\x00\x02\x01\x02ab",
-        b"\x11\x02\x00\x01\x02aa",
-        b"\x01\x02\x00\x01\x02aa",
-        b"\x11\x02\x00\x00\x01a",
-    ];
-    let objects: [&[u8]; 13] = [
-        b"",
-        OBJECT,
-        &OBJECT[..OBJECT.len() - 1],
-        b"\x00",
-        b"\x02\x00\x00",
-        b"\x02\x01\x00\x00\x00",
-        b"\x02\x01\x02\x00\x00",
-        b"\x02\x02\x01\x00\x00\x00\x00",
-        b"\x02\x02\x00\x00\x00\x00\x00",
-        b"\x02\x01\x00\x01\x01\x00",
-        b"\x02\x01\x00\x02\x01\x00",
-        b"\x7E\xFE\xFF\xFF\x1F",
-        b"\x7E\xFF\xFF\xFF\x1F",
-    ];
-    let mut all: Vec<Input> = dictionaries
+    let mut all: Vec<Input> = WORKED_DICTIONARIES
         .iter()
         .map(|dict| Input::object(dict.to_vec(), OBJECT.to_vec()))
         .collect();
     for dict in [SORTED, UNSORTED] {
-        all.extend(objects.iter().map(|object| Input {
+        all.extend(WORKED_OBJECTS.iter().map(|object| Input {
             dict: dict.to_vec(),
             object: Some(object.to_vec()),
             query: Some(b"rol".to_vec()),

@@ -138,7 +138,7 @@ pub(crate) fn outer_object(
         offsets[field] = region.len();
         region.extend(child(random));
     }
-    if !ids.is_empty() && random.one_in(64) {
+    if !ids.is_empty() && random.one_in(16) {
         offsets[random.below(ids.len())] = region.len();
     }
     offsets.push(region.len());

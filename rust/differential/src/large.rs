@@ -78,15 +78,18 @@ fn counts() -> impl Iterator<Item = Input> {
     })
 }
 
-/// Objects of as many bytes as may be, of whose children one is the last byte and one has none and
-/// stands at the very end.
+/// Objects of as many bytes as may be, of whose children one is the last byte and the other the last
+/// two, or stands at the very end and has none.
 fn last_children() -> impl Iterator<Item = Input> {
-    [3, 4].into_iter().map(|width| {
+    [3, 4].into_iter().flat_map(|width| {
         let head = 1 + 1 + 2 + 3 * width;
         let end = LIMIT - head;
         let shape = object_shape(1, width, false);
-        let object = encode::object(&[0, 1], &[end, end - 1, end], &vec![0; end], shape);
-        Input::object(SORTED.to_vec(), object)
+        let starts = [(end - 1, end - 2), (end, end - 1), (end - 1, end)];
+        starts.into_iter().map(move |(flow, roll)| {
+            let object = encode::object(&[0, 1], &[flow, roll, end], &vec![0; end], shape);
+            Input::object(SORTED.to_vec(), object)
+        })
     })
 }
 

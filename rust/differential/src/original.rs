@@ -37,19 +37,12 @@ const EMPTY_SHORT_STRING: u8 = 0x01;
 /// A copy of an object in which every child is an empty short string; nothing for bytes that
 /// have not all their parts.
 ///
-/// The Rust accepts such children, so that its verdict on the copy is one on the layer alone, and
-/// a short string's address tells from where it was read. The region gets one byte more, and the
-/// last offset says so, since a child at the region's very end would have no bytes, which the
-/// Rust refuses; nothing again where that offset's width has no room for one more.
+/// The Rust accepts such a child wherever it has a byte, so that its verdict on the copy is one on
+/// the layer alone, and a short string's address tells from where it was read.
 pub fn traced(object: &[u8]) -> Option<Vec<u8>> {
     let parts = ObjectParts::of(object)?;
-    let length = parts.region(object)?.len() + 1;
-    if length > parts.offsets.greatest() {
-        return None;
-    }
+    let length = parts.region(object)?.len();
     let mut copy = object[..parts.offsets.end()].to_vec();
-    let last = parts.offsets.count - 1;
-    parts.offsets.write(&mut copy, last, length);
     copy.resize(copy.len() + length, EMPTY_SHORT_STRING);
     Some(copy)
 }
@@ -114,9 +107,27 @@ pub fn dictionary_number(dict: &[u8], error: &ArrowError) -> Option<u32> {
     }
 }
 
+/// The reasons to refuse a [`traced`] copy: nothing of it is cut, and no child is refused for what
+/// it is. A read from an offset on is that of a child. Over an unsorted dictionary an unknown id is
+/// told by another read that fails, in words that are not told apart here.
+pub const LAYER_REASONS: &Reasons = &[
+    ("field id", 25),
+    ("not sorted", 26),
+    (".. from", 27),
+    ("Received empty bytes", 28),
+];
+
+/// Whether the reason that the Rust gives for refusing a [`traced`] copy may be one of our numbers.
+pub fn may_be_layer_number(error: &ArrowError, number: u32) -> bool {
+    match told(LAYER_REASONS, error) {
+        Some(reason) => reason == number,
+        None => number == 25 && words(error).contains("extract"),
+    }
+}
+
 /// Whether the reason that the Rust gives for refusing an object may be one of our numbers.
 ///
-/// Over an unsorted dictionary it tells an unknown id by the read that fails. With 27 it may
+/// Over an unsorted dictionary it tells an unknown id by the read that fails. With 27 and 28 it may
 /// have met a child before that it refuses, so that any reason will do.
 pub fn may_be_object_number(error: &ArrowError, number: u32) -> bool {
     let words = words(error);
@@ -126,7 +137,7 @@ pub fn may_be_object_number(error: &ArrowError, number: u32) -> bool {
         24 => words.contains("overflow"),
         25 => words.contains("field id") || words.contains("extract"),
         26 => words.contains("not sorted"),
-        27 => true,
+        27 | 28 => true,
         _ => false,
     }
 }

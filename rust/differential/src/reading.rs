@@ -1,5 +1,6 @@
 //! Where the parts of a dictionary or an object stand, by its header: the positions alone, with
-//! no verdict. It serves to damage a part on purpose, and to put other children into an object.
+//! no verdict. It serves to damage a part on purpose, to put other children into an object, and to
+//! tell places.
 
 /// A row of numbers of one width.
 #[derive(Clone, Copy, Debug, PartialEq, Eq)]

@@ -6,9 +6,10 @@
 use crate::damage::damaged;
 use crate::fixed;
 use crate::generate::good;
-use crate::original::{Reasons, dictionary_number, place_in, told, traced, traced_start};
+use crate::original::{
+    LAYER_REASONS, Reasons, dictionary_number, place_in, told, traced, traced_start,
+};
 use crate::random::Random;
-use crate::reading::ObjectParts;
 use crate::{Input, hex};
 use lichenhusk::{LIMIT, WORDS_PER_NAME, run_of};
 use parquet_variant::{VariantMetadata, VariantObject};
@@ -239,15 +240,14 @@ fn answers(input: &Input) -> Vec<Answer> {
 /// What is asked of an object.
 fn of_object(dict: &[u8], object: &[u8], query: Option<&[u8]>) -> Vec<Answer> {
     let mut all = Vec::new();
-    if let Some(says) = layer(dict, object) {
-        if let Says::Refused(_) = says {
-            let case = names_case(dict, object, &[query.unwrap_or_default()], 1, 0);
-            let says = says.clone();
-            all.push(Answer { case, says });
-        }
-        let case = format!("layer {} {}", hex(dict), hex(object));
+    let says = layer(dict, object);
+    if let Says::Refused(_) = says {
+        let case = names_case(dict, object, &[query.unwrap_or_default()], 1, 0);
+        let says = says.clone();
         all.push(Answer { case, says });
     }
+    let case = format!("layer {} {}", hex(dict), hex(object));
+    all.push(Answer { case, says });
     if let Some(open) = Open::of(dict, object, query) {
         all.extend(open.lookups());
         all.extend(open.many());
@@ -291,39 +291,28 @@ fn name(dict: &[u8], entry: usize) -> Says {
     }
 }
 
-/// What the Rust says to an object; nothing where it cannot be told whether it is for a child.
-fn layer(dict: &[u8], object: &[u8]) -> Option<Says> {
+/// What the Rust says to an object. If it is for a child's bytes, it takes a [`traced`] copy; if
+/// something is cut, there is none, and that is what it refuses.
+fn layer(dict: &[u8], object: &[u8]) -> Says {
     let metadata = match VariantMetadata::try_new(dict) {
         Ok(metadata) => metadata,
-        Err(error) => return Some(Says::Refused(dictionary_number(dict, &error))),
+        Err(error) => return Says::Refused(dictionary_number(dict, &error)),
     };
     let error = match VariantObject::try_new(metadata.clone(), object) {
-        Ok(theirs) => return Some(Says::Layer(theirs.len(), theirs.value.len())),
+        Ok(theirs) => return Says::Layer(theirs.len(), theirs.value.len()),
         Err(error) => error,
     };
-    if let Some(copy) = traced(object) {
-        return Some(match VariantObject::try_new(metadata, &copy) {
-            Ok(theirs) => Says::Child(theirs.len(), theirs.value.len() - 1),
-            Err(error) => Says::Refused(told(FIELD_REASONS, &error)),
-        });
-    }
-    match has_all_parts(object) {
-        true => None,
-        false => Some(Says::Refused(told(HEADER_REASONS, &error))),
+    let Some(copy) = traced(object) else {
+        return Says::Refused(told(CUT_REASONS, &error));
+    };
+    match VariantObject::try_new(metadata, &copy) {
+        Ok(theirs) => Says::Child(theirs.len(), theirs.value.len()),
+        Err(error) => Says::Refused(told(LAYER_REASONS, &error)),
     }
 }
 
-/// Of an object that is cut.
-const HEADER_REASONS: &Reasons = &[("empty", 21), ("extract", 23), ("overflow", 24)];
-
-/// Of a [`traced`] copy, where a child of no bytes is one past the end of the object's own. Over
-/// an unsorted dictionary it does not tell an unknown id from an offset past the end.
-const FIELD_REASONS: &Reasons = &[("field id", 25), ("not sorted", 26), ("empty", 27)];
-
-/// Whether nothing of an object is cut. If something is, that is what the Rust refuses.
-fn has_all_parts(object: &[u8]) -> bool {
-    ObjectParts::of(object).is_some_and(|parts| parts.region(object).is_some())
-}
+/// The reasons to refuse an object that is cut.
+const CUT_REASONS: &Reasons = &[("empty", 21), ("extract", 23), ("overflow", 24)];
 
 /// An object that the Rust accepts, to look for names in.
 struct Open<'a> {

@@ -17,10 +17,8 @@ pub struct Tally {
     pub no_such_entry: u64,
     /// Objects that both accept.
     pub objects: u64,
-    /// Objects that we accept and the Rust refuses for a child.
+    /// Objects that we accept and the Rust refuses for what a child's bytes say.
     pub child_refused: u64,
-    /// Of these, objects in which a child has no bytes.
-    pub child_empty: u64,
     /// Objects that both refuse, by our number.
     pub objects_refused: BTreeMap<u32, u64>,
     /// Objects over a dictionary that is refused.
@@ -87,7 +85,6 @@ impl fmt::Display for Tally {
             "objects accepted, a child refused by the Rust",
             self.child_refused,
         )?;
-        line("  of these, a child has no bytes", self.child_empty)?;
         for (number, count) in &self.objects_refused {
             line(&format!("objects refused by both, {number}"), *count)?;
         }

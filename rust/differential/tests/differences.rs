@@ -56,18 +56,6 @@ fn ids_of_a_name_that_is_there_twice() {
     assert_eq!(found.unwrap().id, 1);
 }
 
-/// A child of no bytes: ours alone. A field takes five bytes, so no shorter object shows it.
-#[test]
-fn empty_children() {
-    for object in [&[2, 1, 0, 0, 0][..], &[2, 1, 0, 1, 1, 0]] {
-        assert!(!rust_accepts(SORTED, object));
-        assert_eq!(
-            lichenhusk::child(SORTED, object, b"flow"),
-            Ok(Some(&[][..]))
-        );
-    }
-}
-
 /// A child of no known type, which we do not read.
 #[test]
 fn children_that_are_no_values() {

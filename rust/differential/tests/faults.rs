@@ -41,6 +41,10 @@ fn the_archive_passes() {
     assert_eq!(outcome.disagreement, None);
     assert!(!outcome.cut);
     assert!(outcome.tally.objects > 0 && outcome.tally.found > 0);
+    for number in 25..=28 {
+        let seen = outcome.tally.objects_refused.get(&number);
+        assert!(seen.is_some_and(|&seen| seen > 20), "{number}: {seen:?}");
+    }
 }
 
 /// How many bytes the input that tells a fault has at most: few, unless the fault is one of length
@@ -87,6 +91,30 @@ fn every_fault_is_tried() {
 fn a_field_among_very_many() {
     let (_, found) = told(Fault::RowsOfTwoBytes);
     assert_eq!(found.asked, "among all fields' names, a field");
+}
+
+/// A reader as it was before 28 is told by its layer, by the smallest object that has a field.
+#[test]
+fn children_of_no_bytes() {
+    let (input, found) = told(Fault::TakesEmptyChildren);
+    assert_eq!(input.object, Some(vec![2, 1, 0, 0, 0]));
+    assert_eq!(found.asked, "a layer with a child of no bytes");
+}
+
+/// 27 and 28 in another order are told by the Rust's words, and the field by the offsets.
+#[test]
+fn numbers_and_fields_of_no_bytes() {
+    for (fault, asked) in [
+        (Fault::PastIsEmpty, "the reason to refuse the layer alone"),
+        (
+            Fault::PastBeforeEmpty,
+            "the reason to refuse the layer alone",
+        ),
+        (Fault::LastEmptyChild, "the first field without bytes"),
+        (Fault::NoShortChildren, "an object's verdict"),
+    ] {
+        assert_eq!(told(fault).1.asked, asked, "{fault:?}");
+    }
 }
 
 /// What a wrong reader finds for an absent name, to the byte.
@@ -200,5 +228,5 @@ fn inputs_at_the_limits() {
         10 + 16,
         "with numbers past what there is"
     );
-    assert_eq!(objects[&LIMIT], 6 + 2 + 18, "with the last children, too");
+    assert_eq!(objects[&LIMIT], 6 + 6 + 18, "with the last children, too");
 }

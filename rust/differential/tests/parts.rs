@@ -1,10 +1,12 @@
 //! The comparison's own parts: enumeration, shrinking, positions, and copies that tell places.
 
+use differential::compare::bad_offsets;
 use differential::encode::{self, DictionaryShape, ObjectShape};
 use differential::exhaustive::each;
 use differential::long_names::beginnings;
 use differential::many::bad_ends;
-use differential::original::{traced, traced_start};
+use differential::original::{may_be_layer_number, traced, traced_start};
+use differential::ours::{Archive, Reader, refused};
 use differential::random::Random;
 use differential::reading::{DictionaryParts, ObjectParts};
 use differential::{Input, LARGE, damage, fixed, generate, hex, large, shrink};
@@ -118,15 +120,67 @@ fn traced_copies_of_every_shape() {
             long_count: header >= 16,
             spare: header % 3 == 0,
         };
-        // The children are of an unknown type, and one has no bytes: the Rust refuses both.
-        let object = encode::object(&[0, 1], &[1, 3, 3], &[0xFC; 3], shape);
+        // The children are of an unknown type, which the Rust refuses.
+        let object = encode::object(&[0, 1], &[1, 2, 3], &[0xFC; 3], shape);
         assert!(VariantObject::try_new(metadata.clone(), &object).is_err());
         let region = ObjectParts::of(&object).unwrap().offsets.end();
         let copy = traced(&object).unwrap();
         let theirs = VariantObject::try_new(metadata.clone(), &copy).unwrap();
         let start = |name| traced_start(&theirs.get(name).unwrap(), &copy);
         assert_eq!(start("flow"), Some(region + 1));
-        assert_eq!(start("roll"), Some(region + 3));
+        assert_eq!(start("roll"), Some(region + 2));
+    }
+}
+
+/// An object of two fields over document 01's dictionary, with a region of one byte.
+fn of_offsets(offsets: [usize; 2], child: u8) -> Vec<u8> {
+    let offsets = [offsets[0], offsets[1], 1];
+    encode::object(
+        &[0, 1],
+        &offsets,
+        &[child],
+        fixed::object_shape(1, 1, false),
+    )
+}
+
+/// Offsets of two fields, and what is due: 27 past the region, 28 at its end.
+const BAD_OFFSETS: [([usize; 2], u32, u32); 7] = [
+    ([1, 0], 28, 0),
+    ([0, 1], 28, 1),
+    ([1, 1], 28, 0),
+    ([1, 2], 28, 0),
+    ([2, 1], 27, 0),
+    ([2, 2], 27, 0),
+    ([0, 2], 27, 1),
+];
+
+/// Field by field, and ours is the first.
+#[test]
+fn offsets_that_leave_no_bytes() {
+    for (offsets, number, field) in BAD_OFFSETS {
+        let object = of_offsets(offsets, 0);
+        let due = refused(number, field);
+        assert_eq!(bad_offsets(&object).next(), Some(due), "{offsets:?}");
+        assert_eq!(Archive.layer(fixed::SORTED, &object), due, "{offsets:?}");
+    }
+    let numbers = |offsets| bad_offsets(&of_offsets(offsets, 0)).collect::<Vec<_>>();
+    assert_eq!(numbers([0, 0]), []);
+    assert_eq!(numbers([1, 2]), [refused(28, 0), refused(27, 1)]);
+    assert_eq!(bad_offsets(&[2, 1, 0]).count(), 0, "what is cut has none");
+}
+
+/// The Rust refuses them, too; of a copy, in words that tell which of the two it is, though the
+/// child before is of an unknown type.
+#[test]
+fn traced_copies_without_bytes() {
+    let metadata = VariantMetadata::try_new(fixed::SORTED).unwrap();
+    for (offsets, number, _) in BAD_OFFSETS {
+        let object = of_offsets(offsets, 0xFC);
+        assert!(VariantObject::try_new(metadata.clone(), &object).is_err());
+        let copy = traced(&object).unwrap();
+        let error = VariantObject::try_new(metadata.clone(), &copy).unwrap_err();
+        let may_be = (0..100).filter(|&number| may_be_layer_number(&error, number));
+        assert_eq!(may_be.collect::<Vec<_>>(), [number], "{offsets:?}");
     }
 }
 

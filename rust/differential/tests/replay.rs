@@ -87,7 +87,7 @@ fn kind(case: &str, says: &str) -> String {
 }
 
 /// What lines there must be.
-const KINDS: [&str; 36] = [
+const KINDS: [&str; 38] = [
     "dictionary accepts",
     "dictionary refuses 11",
     "dictionary refuses 12",
@@ -112,6 +112,7 @@ const KINDS: [&str; 36] = [
     "layer refuses 25",
     "layer refuses 26",
     "layer refuses 27",
+    "layer refuses 28",
     "layer refuses -",
     "lookup found",
     "lookup absent",
@@ -123,6 +124,7 @@ const KINDS: [&str; 36] = [
     "all refuses 18",
     "all refuses 23",
     "all refuses 26",
+    "all refuses 28",
     "all refuses -",
 ];
 
