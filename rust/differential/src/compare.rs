@@ -588,7 +588,8 @@ impl<'d, R: Reader> Pair<'_, 'd, R> {
             Ok(theirs) => theirs,
             Err(error) => return differ("the layer alone", self.layer, error),
         };
-        agree("the trimmed end", self.layer.end as usize, copy.len())?;
+        let end = theirs.value.len();
+        agree("the trimmed end", self.layer.end as usize, end)?;
         let is_at = |value: &Variant, start: usize| traced_start(value, &copy) == Some(start);
         self.fields(&theirs, fields, is_at)?;
         self.gets(&theirs, lookups, is_at)?;
