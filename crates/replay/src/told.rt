@@ -1,6 +1,6 @@
 // What the Rust says on a line, held against our six numbers, and of many names against our words, too:
 //
-//     accepts COUNT END     child COUNT END     at START END     found FIELD ID START END     absent     refuses NUMBER     refuses -
+//     accepts COUNT END     child COUNT END     at START END     found FIELD ID START END     absent     refuses NUMBER
 //     rows COUNT END : CODE FIELD ID START END ..
 use ask::Answer;
 use cases::expected::ends;
@@ -51,12 +51,6 @@ fn gives_nothing(a: Answer) -> bool {
 fn refused(text: &[u8], a: Answer) -> bool {
     if !gives_nothing(a) {
         return false;
-    }
-    let w = word(text, 0);
-    let s = w.start;
-    let e = w.end;
-    if check::same(&text[s..e], b"-") {
-        return 10 <= a.code;
     }
     let code = see(text, 0, a.code);
     code.same

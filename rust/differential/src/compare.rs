@@ -29,7 +29,7 @@
 
 use crate::many::Many;
 use crate::original::{
-    dictionary_number, may_be_layer_number, may_be_object_number, place_in, same_value, traced,
+    dictionary_number, layer_number, may_be_object_number, place_in, same_value, traced,
     traced_start, utf8_error, words,
 };
 use crate::ours::{Reader, absent, accepted, found, refused};
@@ -372,7 +372,7 @@ impl<'d, R: Reader> Pair<'_, 'd, R> {
         let Err(error) = VariantObject::try_new(self.metadata.clone(), copy) else {
             return differ("the layer alone", layer, "accepts");
         };
-        if !may_be_layer_number(&error, layer.code) {
+        if layer_number(&error) != Some(layer.code) {
             return differ("the reason to refuse the layer alone", layer, error);
         }
         if layer.code > 26 {

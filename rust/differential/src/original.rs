@@ -107,22 +107,19 @@ pub fn dictionary_number(dict: &[u8], error: &ArrowError) -> Option<u32> {
     }
 }
 
-/// The reasons to refuse a [`traced`] copy: nothing of it is cut, and no child is refused for what
-/// it is. A read from an offset on is that of a child. Over an unsorted dictionary an unknown id is
-/// told by another read that fails, in words that are not told apart here.
-pub const LAYER_REASONS: &Reasons = &[
+/// The reasons to refuse a [`traced`] copy, of which nothing is cut. A read without an end is that
+/// of a child; another read that fails is that of an unknown id's name, in an unsorted dictionary.
+const LAYER_REASONS: &Reasons = &[
     ("field id", 25),
     ("not sorted", 26),
     (".. from", 27),
-    ("Received empty bytes", 28),
+    ("empty", 28),
+    ("extract", 25),
 ];
 
-/// Whether the reason that the Rust gives for refusing a [`traced`] copy may be one of our numbers.
-pub fn may_be_layer_number(error: &ArrowError, number: u32) -> bool {
-    match told(LAYER_REASONS, error) {
-        Some(reason) => reason == number,
-        None => number == 25 && words(error).contains("extract"),
-    }
+/// Our number for a [`traced`] copy that the Rust refuses.
+pub fn layer_number(error: &ArrowError) -> Option<u32> {
+    told(LAYER_REASONS, error)
 }
 
 /// Whether the reason that the Rust gives for refusing an object may be one of our numbers.

@@ -7,7 +7,7 @@ use crate::damage::damaged;
 use crate::fixed;
 use crate::generate::good;
 use crate::original::{
-    LAYER_REASONS, Reasons, dictionary_number, place_in, told, traced, traced_start,
+    Reasons, dictionary_number, layer_number, place_in, told, traced, traced_start,
 };
 use crate::random::Random;
 use crate::{Input, hex};
@@ -119,8 +119,8 @@ enum Says {
     Absent,
     /// Many names of an object: its field count and trimmed end, and what is said to each name.
     Rows(usize, usize, Vec<Says>),
-    /// Refused, by our number if the Rust's words tell it.
-    Refused(Option<u32>),
+    /// Refused, by our number.
+    Refused(u32),
 }
 
 impl fmt::Display for Says {
@@ -137,8 +137,7 @@ impl fmt::Display for Says {
                 write!(to, "rows {count} {end} :")?;
                 rows.iter().try_for_each(|row| row.write_row(to))
             }
-            Says::Refused(Some(number)) => write!(to, "refuses {number}"),
-            Says::Refused(None) => write!(to, "refuses -"),
+            Says::Refused(number) => write!(to, "refuses {number}"),
         }
     }
 }
@@ -176,7 +175,7 @@ impl Answer {
     fn class(&self, input: &Input) -> String {
         let (dict_bits, object_bits) = match (self.kind(), &self.says) {
             ("dictionary", _) => (WIDTH | SORTED, 0),
-            (_, Says::Refused(Some(10..=19))) => (0, 0),
+            (_, Says::Refused(10..=19)) => (0, 0),
             ("all", says) if says.found() == 0 => (0, 0),
             ("name", _) => (WIDTH | SORTED, 0),
             _ => (SORTED, OBJECT_SHAPE),
@@ -270,24 +269,29 @@ fn names_case(
     format!("all {dict} {object} {run} {room}{}", ends.concat())
 }
 
+/// A refusal by the number that the Rust's words tell: there is one for each of its reasons.
+fn refused(number: Option<u32>) -> Says {
+    Says::Refused(number.expect("words that tell a reason"))
+}
+
 fn dictionary(dict: &[u8]) -> Says {
     match VariantMetadata::try_new(dict) {
         Ok(metadata) => Says::Dictionary(metadata.len(), metadata.size()),
-        Err(error) => Says::Refused(dictionary_number(dict, &error)),
+        Err(error) => refused(dictionary_number(dict, &error)),
     }
 }
 
 fn name(dict: &[u8], entry: usize) -> Says {
     let metadata = match VariantMetadata::try_new(dict) {
         Ok(metadata) => metadata,
-        Err(error) => return Says::Refused(dictionary_number(dict, &error)),
+        Err(error) => return refused(dictionary_number(dict, &error)),
     };
     match metadata.get(entry) {
         Ok(name) => {
             let start = place_in(name.as_bytes(), dict);
             Says::Name(start, start + name.len())
         }
-        Err(_) => Says::Refused(Some(31)),
+        Err(_) => Says::Refused(31),
     }
 }
 
@@ -296,18 +300,18 @@ fn name(dict: &[u8], entry: usize) -> Says {
 fn layer(dict: &[u8], object: &[u8]) -> Says {
     let metadata = match VariantMetadata::try_new(dict) {
         Ok(metadata) => metadata,
-        Err(error) => return Says::Refused(dictionary_number(dict, &error)),
+        Err(error) => return refused(dictionary_number(dict, &error)),
     };
     let error = match VariantObject::try_new(metadata.clone(), object) {
         Ok(theirs) => return Says::Layer(theirs.len(), theirs.value.len()),
         Err(error) => error,
     };
     let Some(copy) = traced(object) else {
-        return Says::Refused(told(CUT_REASONS, &error));
+        return refused(told(CUT_REASONS, &error));
     };
     match VariantObject::try_new(metadata, &copy) {
         Ok(theirs) => Says::Child(theirs.len(), theirs.value.len()),
-        Err(error) => Says::Refused(told(LAYER_REASONS, &error)),
+        Err(error) => refused(layer_number(&error)),
     }
 }
 

@@ -70,7 +70,6 @@ fn holds(case: &str, says: &str, strip: Strip, lent: &[u32]) -> bool {
             ours == [0, number(field), number(id), number(start), number(end), 0]
         }
         ["absent"] => ours == [1, 0, 0, 0, 0, 0],
-        ["refuses", "-"] => code >= 10 && ours == [code, 0, 0, 0, 0, place],
         ["refuses", code] => ours == [number(code), 0, 0, 0, 0, place],
         _ => panic!("no answer: {says}"),
     }
@@ -87,7 +86,7 @@ fn kind(case: &str, says: &str) -> String {
 }
 
 /// What lines there must be.
-const KINDS: [&str; 38] = [
+const KINDS: [&str; 37] = [
     "dictionary accepts",
     "dictionary refuses 11",
     "dictionary refuses 12",
@@ -113,7 +112,6 @@ const KINDS: [&str; 38] = [
     "layer refuses 26",
     "layer refuses 27",
     "layer refuses 28",
-    "layer refuses -",
     "lookup found",
     "lookup absent",
     "all rows of 0",
@@ -123,9 +121,9 @@ const KINDS: [&str; 38] = [
     "all refuses 13",
     "all refuses 18",
     "all refuses 23",
+    "all refuses 25",
     "all refuses 26",
     "all refuses 28",
-    "all refuses -",
 ];
 
 #[test]
