@@ -1,6 +1,6 @@
 -- The lookup finds field k exactly when the layer is accepted and k is its field of that name; it says absent exactly when the layer is
 -- accepted and has no such field; it refuses as the verdict does; and never two fields have one name. Assumes nothing.
-use Rattle.rules.proofs.Prelude.{_≡_, refl, _∙_, _↔_, List, [], _∷_, ℕ, _≤_, _<_, arith, length, Answer, accept, refuse, answered, refused}
+use Rattle.rules.proofs.Prelude.{_≡_, refl, _∙_, _↔_, List, [], _∷_, ℕ, _+_, _≤_, _<_, arith, length, Answer, accept, refuse, answered, refused}
 use Rattle.rules.proofs.Prelude.{by-meaning}
 use Rattle.names.specs.Search.{Sought, seek}
 use Rattle.names.specs.Search.Sought.{nowhere, here}
@@ -8,7 +8,7 @@ use Rattle.names.proofs.Search as names
 use Rattle.metadata.specs.Dictionary as dictionary
 use Rattle.metadata.specs.Meaning.{Named}
 use Rattle.metadata.proofs.Names.{named, name-there}
-use Rattle.object.specs.Object.{count, start, end, fieldName}
+use Rattle.object.specs.Object.{count, id, offset, start, end, fieldName}
 use Rattle.object.specs.Meaning.{Layer, Refusal}
 use Rattle.object.proofs.Laws.{names-rise, end-is}
 use Rattle.object.proofs.Means.{checks-mean}
@@ -23,27 +23,31 @@ module _ (d o q : List ℕ) where
   abbrev Good : Type 0
   Good = Layer d o (count o) (start o) (end o)
 
+  -- the layer, a field and its name are enough: what else `Found` says follows, that the id is an entry and that the child has bytes among it
+  pub by-name : Good → (k : ℕ) → k < count o → fieldName d o k ≡ q → Found d o q k (id o k) (start o + offset o k) (end o)
+  unfolding fieldName
+  by-name g k p e =
+      record {
+        accepted = g;
+        is-field = p;
+        is-name = e;
+        is-id = refl;
+        is-entry = g .named .names k p .entry;
+        id-names = e;
+        starts = refl;
+        ends = refl;
+        has-bytes = omega (arith, end-is o, g .offsets k p);
+      }
+
   -- WHAT IS SO OF EACH CASE IS SO OF THE ANSWER
   pub by-answer : (P : Answer → Type 0) → ((k i a e : ℕ) → Found d o q k i a e → P (accept (k ∷ i ∷ a ∷ e ∷ []))) → (Absent d o q → P absent)
       → ((c p : ℕ) → Refusal d o c p → P (refuse c p)) → P (lookup d o q)
-  unfolding lookupWithin fieldName
+  unfolding lookupWithin
   by-answer P is-found is-absent is-refused = by-meaning P _ (checks-mean d o) (λ g. go g (seek (fieldName d o) q (count o)) refl) is-refused
     where
       go : Good → (s : Sought) → seek (fieldName d o) q (count o) ≡ s → P (foundFor o s)
       go g nowhere e = is-absent (record { accepted = g; no-field = names.seek-nowhere (fieldName d o) q (count o) e })
-      go g (here k) e =
-          let at = names.seek-at (fieldName d o) q (count o) k e in
-          is-found k _ _ _ (record {
-            accepted = g;
-            is-field = at .0;
-            is-name = at .1;
-            is-id = refl;
-            is-entry = g .named .names k (at .0) .entry;
-            id-names = at .1;
-            starts = refl;
-            ends = refl;
-            has-bytes = omega (arith, end-is o, g .offsets k (at .0));
-          })
+      go g (here k) e = let at = names.seek-at (fieldName d o) q (count o) k e in is-found k _ _ _ (by-name g k (at .0) (at .1))
 
   -- FOUND
   is-there : (k i a e : ℕ) → lookup d o q ≡ accept (k ∷ i ∷ a ∷ e ∷ []) → Found d o q k i a e
@@ -81,6 +85,11 @@ module _ (d o q : List ℕ) where
   -- THE THEOREMS
   pub found : (k i a e : ℕ) → (lookup d o q ≡ accept (k ∷ i ∷ a ∷ e ∷ [])) ↔ Found d o q k i a e
   found k i a e = (is-there k i a e, is-found k i a e)
+
+  -- the same without what follows: an accepted layer, a field of it, its name
+  pub found-at : (k : ℕ) → (lookup d o q ≡ accept (k ∷ id o k ∷ (start o + offset o k) ∷ end o ∷ [])) ↔ (Good × (k < count o) × (fieldName d o k ≡ q))
+  found-at k =
+      (λ e. let f = is-there k _ _ _ e in (f .accepted, f .is-field, f .is-name), λ h. is-found k _ _ _ (by-name (h .0) k (h .1) (h .2)))
 
   pub absent-is : (lookup d o q ≡ absent) ↔ Absent d o q
   absent-is = (none-there, is-absent)
