@@ -157,7 +157,7 @@ fn child_place(dict: &[u8], object: &[u8], name: &[u8]) -> Place
     }
 }
 
-// The child of that name, as a part of the object.
+// The child of that name, as a part of the object. It is empty, at the object's start, exactly where `get` says Absent or Refused.
 pub fn child<'d, 'o, 'n>(dict: &'d [u8], object: &'o [u8], name: &'n [u8]) -> &'o [u8]
     ensures { λ r. ⌜ ChildPromise (now (dict .entry)) (object .entry) (now (name .entry)) r ⌝ }
 {
