@@ -15,6 +15,8 @@ set -eu
 task=${1:-}
 [ $# -eq 0 ] || shift
 cd "$(dirname "$0")"
+# Neither cargo nor a make of this script can take part in the jobs of the make that may run it.
+unset MAKEFLAGS MFLAGS
 
 skip() {
   echo "skipped: $task, $*" >&2
