@@ -1,6 +1,7 @@
 -- What a host learns from each call, whatever code was returned (specs/Host.antt); and no word of any answer is too large for its four bytes.
 -- Assumes nothing.
-use Rattle.rules.proofs.Prelude.{_≡_, refl, sym, ap, _∙_, _↔_, List, _++_, ℕ, _+_, _*_, _≤_, _<_, add-zero, decLt, arith, lt-ltb, le-ltb, length, drop, getD, List·getD-append, Answer, codeOf, by-meaning}
+use Rattle.rules.proofs.Prelude.{_≡_, refl, sym, ap, _∙_, _↔_, List, _++_, ℕ, _+_, _*_, _≤_, _<_, add-zero, decLt, arith, lt-ltb, le-ltb}
+use Rattle.rules.proofs.Prelude.{length, drop, getD, List·getD-append, Answer, codeOf, by-meaning}
 use Rattle.chars.specs.Rfc3629.{Completed}
 use Rattle.metadata.specs.Dictionary as dictionary
 use Rattle.metadata.specs.Meaning.{Refusal}

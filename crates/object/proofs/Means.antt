@@ -8,7 +8,8 @@ use Rattle.metadata.specs.Meaning as dictionary-meaning
 use Rattle.metadata.proofs.Means as dictionary-means
 use Rattle.object.specs.Object.{count, start, end, headRules, nameRules, offsetRules, checks, checksWithin}
 use Rattle.object.specs.Meaning.{Sized, Typed, Counted, Placed, Headed, GoodName, Named, InRegion, Layer, Refusal}
-use Rattle.object.specs.Meaning.Refusal.{of-dictionary, too-long, empty, other-type, count-cut, offsets-sum, start-sum, start-short, end-sum, end-short, no-entry, not-above, past-region, empty-child}
+use Rattle.object.specs.Meaning.Refusal.{of-dictionary, too-long, empty, other-type, count-cut, offsets-sum, start-sum, start-short}
+use Rattle.object.specs.Meaning.Refusal.{end-sum, end-short, no-entry, not-above, past-region, empty-child}
 
 module _ (d o : List ℕ) where
   -- THE HEADER

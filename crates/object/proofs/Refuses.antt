@@ -8,7 +8,8 @@ use Rattle.metadata.proofs.Accepts as dictionary-accepts
 use Rattle.metadata.proofs.Refuses as dictionary-refuses
 use Rattle.object.specs.Object.{count, start, end, nameRules, offsetRules, checks, verdict, verdictWithin}
 use Rattle.object.specs.Meaning.{Counted, Placed, Headed, GoodName, Named, InRegion, Refusal}
-use Rattle.object.specs.Meaning.Refusal.{of-dictionary, too-long, empty, other-type, count-cut, offsets-sum, start-sum, start-short, end-sum, end-short, no-entry, not-above, past-region, empty-child}
+use Rattle.object.specs.Meaning.Refusal.{of-dictionary, too-long, empty, other-type, count-cut, offsets-sum, start-sum, start-short}
+use Rattle.object.specs.Meaning.Refusal.{end-sum, end-short, no-entry, not-above, past-region, empty-child}
 use Rattle.object.proofs.Laws.{by-dictionary, by-head, by-names}
 use Rattle.object.proofs.Means.{head-passed, good-passed, inside-passed, checks-mean}
 
