@@ -3,7 +3,8 @@
  *
  * A Variant comes as two buffers: a dictionary of field names (the encoding's
  * "metadata") and a value. These functions read the dictionary and one layer
- * of an object; they do not look into the object's children.
+ * of an object. They do not look into the object's children, but for how long
+ * each is, where the fields are listed.
  *
  * Every function takes whatever bytes its buffers hold, keeps nothing,
  * allocates nothing and ends. It reads only the buffers that it is handed, and
@@ -121,7 +122,8 @@ enum lichenhusk_word_index {
  * the first in the order in which the bytes are checked: the ends of names
  * before the dictionary, the dictionary before the object, a header before what
  * it describes, and then entry by entry and field by field: 25 and 26 of each
- * field first, and when all are done, 27 and 28 of each.
+ * field first, and when all are done, 27 and 28 of each. Of a listing, 43 comes
+ * after these, and 41 last.
  */
 enum lichenhusk_code {
     /* Accepted, found, or written. */
@@ -188,6 +190,11 @@ enum lichenhusk_code {
     LICHENHUSK_WORDS_TOO_FEW = 41,
     /* Fewer than 3 bytes of room for the empty dictionary. Nothing is written. */
     LICHENHUSK_ROOM_TOO_SMALL = 42,
+    /* Of a listing: a field's child has no length of its own within the object.
+     * It is of a primitive type that is not known (21 and up), or its header or
+     * its bytes go on past the object's trimmed end. The place: the field. No
+     * word is written. */
+    LICHENHUSK_CHILD_LENGTH = 43,
 
     /* Of many names, one has an end that falls below where the name begins, or
      * that passes the run of names. The place: the name, counted from 0 (of more
@@ -275,19 +282,22 @@ uint32_t lichenhusk_layer(const uint8_t *dict, size_t dict_len,
 /*
  * As lichenhusk_layer, and lists the fields: three words each, in the object's
  * order: the field's id (its entry in the dictionary); where its child starts
- * in the object; the span, the bytes from there to the next larger offset. That
- * is never 0, since the last offset is above every field's. words_len counts
- * words. Words after these stay as they are, and a refusal leaves them all.
+ * in the object; the span, which is the child's own encoded length. So the
+ * child is the object's bytes from its start on, as many as the span says:
+ * never 0, and never past the trimmed end. Bytes that no child has may lie
+ * between. words_len counts words. Words after these stay as they are, and a
+ * refusal leaves them all.
  *
- * 41 comes after every other refusal.
+ * The own length is told by the child's first bytes: a primitive's by its type,
+ * a string's or a binary's by the length that it holds, an object's or a list's
+ * by its last offset. What else the child says is not looked at.
  *
- * For the span of each field all offsets are looked at, so the time grows with
- * the square of the number of fields: 0.4 seconds were measured for 16,000
- * fields, 1.9 for 35,040 and 6.6 for 65,536 (Neoverse-V1, offsets of three
- * bytes), which makes minutes for 500,000. A later request, f), replaces the
- * rule. Of large objects, ask for the fields that are wanted, with
- * lichenhusk_lookup or, for many names, lichenhusk_lookup_all: the time of these
- * grows with the bytes (65,536 names of as many fields took 8 milliseconds).
+ * Otherwise a refusal: 10 to 19, 20 to 28, then 43 at the first field whose
+ * child has no such length, and 41 after every other; or 40. All children are
+ * measured before the first word is written.
+ *
+ * The time grows with the bytes of dictionary and object, as lichenhusk_layer's
+ * does: each field is looked at once to measure its child and once to list it.
  */
 uint32_t lichenhusk_list(const uint8_t *dict, size_t dict_len,
                          const uint8_t *object, size_t object_len,

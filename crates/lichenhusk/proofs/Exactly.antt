@@ -19,7 +19,7 @@ use Rattle.lichenhusk.specs.Host.DictionarySays.{accepted, refused as di
 use Rattle.lichenhusk.specs.Host.NameSays.{named, no-entry, refused as name-refused}
 use Rattle.lichenhusk.specs.Host.LayerSays.{accepted as layer-accepted, refused as layer-refused}
 use Rattle.lichenhusk.specs.Host.LookupSays.{found, absent, refused as lookup-refused}
-use Rattle.lichenhusk.specs.Host.ListSays.{listed, no-room, refused as list-refused}
+use Rattle.lichenhusk.specs.Host.ListSays.{listed, no-length, no-room, refused as list-refused}
 use Rattle.lichenhusk.proofs.Carries.{Said, carried}
 use Rattle.lichenhusk.proofs.Tells.{dictionary-said, name-said, layer-said, lookup-said, list-said}
 
@@ -69,5 +69,6 @@ module _ (strip : List ℕ) (enough : stripBytes ≤ length strip) {code : ℕ} 
         where
           only : (words : List ℕ) → ListSays d o w words → wordsOf layerShape (list-of d o w) ≡ words
           only _ (listed l) = ap (wordsOf layerShape) (listing.listed-is d o w _ _ _ .1 l)
+          only _ (no-length n) = ap (wordsOf layerShape) (listing.no-length-is d o w _ .1 n)
           only _ (no-room n) = ap (wordsOf layerShape) (listing.no-room-is d o w .1 n)
-          only _ (list-refused b t r) = ap (wordsOf layerShape) (listing.refused-is d o w _ _ (λ e. omega arith) .1 r)
+          only _ (list-refused b t r) = ap (wordsOf layerShape) (listing.refused-is d o w _ _ (λ e. omega arith) (λ e. omega arith) .1 r)

@@ -11,6 +11,9 @@ use Rattle.metadata.proofs.Refuses.{NoText}
 use Rattle.metadata.proofs.Names as dictionary-names
 use Rattle.metadata.proofs.Fits as dictionary-fits
 use Rattle.metadata.proofs.Says.{too-small, enough}
+use Rattle.part.specs.Part.{part}
+use Rattle.value.specs.declared.Length.the-variants.{Known}
+use Rattle.value.specs.Encoding.{ownLength}
 use Rattle.object.specs.Object as object
 use Rattle.object.proofs.Means.{checks-mean}
 use Rattle.object.proofs.Refuses.{is-due}
@@ -19,10 +22,10 @@ use Rattle.lookup.specs.ByName.{lookup as lookup-of}
 use Rattle.lookup.specs.Meaning.{Found, Absent, Spells}
 use Rattle.lookup.specs.Meaning.Spells.{spells}
 use Rattle.lookup.proofs.Found as lookup
-use Rattle.listing.specs.Words.{rows, listed as list-of, wordsAfter as filled}
+use Rattle.listing.specs.Words.{child, span, rows, listed as list-of, wordsAfter as filled}
 use Rattle.listing.proofs.Rows.{rows-length}
 use Rattle.listing.specs.Meaning.{Listed}
-use Rattle.listing.proofs.Listed.{id-word, span-word, span-some}
+use Rattle.listing.proofs.Listed.{id-word, start-word, span-word, own-length, span-some, span-ends}
 use Rattle.listing.proofs.Lists as listing
 use Rattle.words.specs.Shapes.{wordsOf, lookupShape, layerShape, dictionaryShape, nameShape, stripBytes}
 use Rattle.lichenhusk.specs.Strip.{lookupWords, layerWords, listWords, verdictWords, nameAtWords, filledAfter}
@@ -33,7 +36,7 @@ use Rattle.lichenhusk.specs.Host.NameSays.{named, no-entry, refused as n
 use Rattle.lichenhusk.specs.Host.LayerSays.{accepted as layer-accepted, refused as layer-refused}
 use Rattle.lichenhusk.specs.Host.LookupSays.{found, absent, refused as lookup-refused}
 use Rattle.lichenhusk.specs.Host.Spelled.{spelled}
-use Rattle.lichenhusk.specs.Host.ListSays.{listed, no-room, refused as list-refused}
+use Rattle.lichenhusk.specs.Host.ListSays.{listed, no-length, no-room, refused as list-refused}
 use Rattle.lichenhusk.proofs.Carries.{Fits, Said, tells}
 
 -- WHAT THE WORDS OF EACH ANSWER SAY
@@ -73,6 +76,7 @@ module _ (d o : List ℕ) where
   list-said w =
       listing.by-answer d o w (λ x. Said (ListSays d o w) (wordsOf layerShape x))
       (λ n v e l. let s = layer-small d o (l .accepted) in (omega arith, (λ w. omega arith), listed l))
+      (λ k n. let s = layer-small d o (n .accepted) in (omega (arith, n .field), (λ w. omega arith), no-length n))
       (λ n. (omega arith, (λ w. omega arith), no-room n))
       (λ c p due. let s = checks-code d o (is-due d o due) in (omega arith, (λ w. omega arith), list-refused (s .0) (s .1) due))
 
@@ -157,8 +161,9 @@ module _ (strip : List ℕ) (code : ℕ) (after : List ℕ) where
           by-case : {x : List ℕ} → ListSays d o w x → wordsAfter ≡ filled d o w
               → (getD x 0 0 ≡ 0 → wordsAfter ≡ rows o (getD x 1 0) ++ drop (3 * getD x 1 0) w) × ((getD x 0 0 ≡ 0 → ⊥) → wordsAfter ≡ w)
           by-case (listed l) q = (λ _. q ∙ listing.words-listed d o w _ _ _ l, λ m. absurd (m refl))
-          by-case (no-room r) q = (λ z. absurd (omega arith), λ _. q ∙ listing.words-no-room d o w r)
-          by-case (list-refused b t r) q = (λ z. absurd (omega arith), λ _. q ∙ listing.words-refused d o w r)
+          by-case (no-length r) q = (λ z. absurd (omega arith), λ _. q ∙ listing.words-stay d o w (listing.no-length-stops d o w _ r))
+          by-case (no-room r) q = (λ z. absurd (omega arith), λ _. q ∙ listing.words-stay d o w (listing.no-room-stops d o w r))
+          by-case (list-refused b t r) q = (λ z. absurd (omega arith), λ _. q ∙ listing.words-stay d o w (listing.refusal-stops d o w r))
 
           go : Dec (length strip < stripBytes) → Fills o w code after wordsAfter
           go (yes h) =
@@ -176,6 +181,7 @@ module _ (strip : List ℕ) (code : ℕ) (after : List ℕ) where
           where
             go : {x : List ℕ} → ListSays d o w x → getD x 0 0 ≡ 0 → Listed d o w (getD x 1 0) (getD x 3 0) (getD x 4 0)
             go (listed l) z = l
+            go (no-length r) z = absurd (omega arith)
             go (no-room r) z = absurd (omega arith)
             go (list-refused b t r) z = absurd (omega arith)
 
@@ -189,9 +195,23 @@ module _ (strip : List ℕ) (code : ℕ) (after : List ℕ) where
             let field : k < word after 1 = rw (returned-listed .accepted .counts) (f .is-field) in
             rw add-zero at (row-word k 0 field (omega arith)) ∙ id-word o _ k field ∙ sym (f .is-id)
 
-        -- and no field's span is 0
-        pub span-listed : (k : ℕ) → k < word after 1 → 0 < getD wordsAfter (3 * k + 2) 0
-        span-listed k p = rw (row-word k 2 p (omega arith) ∙ span-word o _ k p) (span-some d o _ _ _ k (returned-listed .accepted) p)
+        -- a field's span is the own length of the child at its start, is never 0, and ends at the trimmed end or before
+        module _ (k : ℕ) (p : k < word after 1) where
+          span-is : getD wordsAfter (3 * k + 2) 0 ≡ span o k
+          span-is = row-word k 2 p (omega arith) ∙ span-word o _ k p
+
+          start-is : getD wordsAfter (3 * k + 1) 0 ≡ object.start o + object.offset o k
+          start-is = row-word k 1 p (omega arith) ∙ start-word o _ k p
+
+          pub own-listed : ownLength (part o (getD wordsAfter (3 * k + 1) 0) (word after 4)) ≡ Known (getD wordsAfter (3 * k + 2) 0)
+          unfolding child
+          own-listed = rw (span-is, start-is, returned-listed .accepted .ends) (own-length d o w _ _ _ k returned-listed p)
+
+          pub span-listed : 0 < getD wordsAfter (3 * k + 2) 0
+          span-listed = rw span-is (span-some d o w _ _ _ k returned-listed p)
+
+          pub ends-listed : getD wordsAfter (3 * k + 1) 0 + getD wordsAfter (3 * k + 2) 0 ≤ word after 4
+          ends-listed = rw (span-is, start-is, returned-listed .accepted .ends) (span-ends d o w _ _ _ k returned-listed p)
 
 -- the empty dictionary
 pub empty-tells : (room : List ℕ) (code : ℕ) (after : List ℕ) → EmptyPromise room code after → EmptyTells room code after

@@ -9,6 +9,8 @@ use Rattle.names.specs.Search.{same, seek}
 use Rattle.metadata.specs.Limits.{limit, u32Max}
 use Rattle.metadata.specs.Dictionary as dictionary
 use Rattle.object.specs.Object as object
+use Rattle.layout.specs.Layout as layout
+use Rattle.value.specs.Encoding as value
 use Rattle.run.specs.Run as run
 use Rattle.lookup.specs.ByName as by-name
 use Rattle.lookup.specs.Many as many
@@ -25,5 +27,8 @@ unfolding le bytesOf upTo leadOf tailsOf char textUpTo begins isCut compareOf be
     object.basicType object.offsetWidth object.idWidth object.countWidth object.count object.idsStart object.id object.offsetsStart
     object.offset object.start object.end object.fieldName object.nameRules object.offsetRules object.checksWithin object.verdictWithin
     by-name.lookupWithin run.begin run.name run.endRules run.checks many.rowWithin many.manyChecksWithin many.lookupsWithin many.rowsAfterWithin
-    listing.leastAbove listing.span listing.row listing.listChecksWithin listing.wordsAfterWithin bytesOfWords stripAfter
+    layout.count layout.offsetsStart layout.offset layout.start layout.end value.countWidth value.objectWidths value.listWidths value.headerOf
+    value.payload value.holdsLength value.held value.bytesBy value.lengthRules value.caseOf value.lengthBy value.ownLength
+    listing.child listing.span listing.spanRules listing.row listing.listChecksWithin listing.listedWithin listing.wordsAfterWithin
+    bytesOfWords stripAfter
 worked = refl

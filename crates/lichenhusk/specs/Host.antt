@@ -17,7 +17,7 @@ use Rattle.lookup.specs.Many.{rowOf}
 use Rattle.lookup.specs.Meaning as many
 use Rattle.lookup.specs.Meaning.{Found, Absent, Answered, RefusedAfter, rowAt}
 use Rattle.listing.specs.Words.{rows}
-use Rattle.listing.specs.Meaning.{Listed, NoRoom}
+use Rattle.listing.specs.Meaning.{Listed, NoLength, NoRoom}
 use Rattle.words.specs.Shapes.{refusalWords, stripBytes}
 
 -- WHAT CODE, NUMBER, ID, START, END AND PLACE SAY, call by call
@@ -46,6 +46,7 @@ pub data Spelled (d q : List ℕ) : List ℕ → Type 0 where
 
 pub data ListSays (d o words : List ℕ) : List ℕ → Type 0 where
   listed : {n v e : ℕ} → Listed d o words n v e → ListSays d o words (0 ∷ n ∷ 0 ∷ v ∷ e ∷ 0 ∷ [])
+  no-length : {k : ℕ} → NoLength d o k → ListSays d o words (refusalWords 43 k)
   no-room : NoRoom d o words → ListSays d o words (refusalWords 41 0)
   refused : {c p : ℕ} → 10 ≤ c → c < 29 → Refusal d o c p → ListSays d o words (refusalWords c p)
 

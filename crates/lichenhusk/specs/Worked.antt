@@ -8,7 +8,7 @@ use Rattle.metadata.specs.Dictionary as dictionary
 use Rattle.object.specs.Object as object
 use Rattle.lookup.specs.ByName as by-name
 use Rattle.lookup.specs.Many as many
-use Rattle.listing.specs.Words.{wordsAfter}
+use Rattle.listing.specs.Words.{listed as list-of, wordsAfter}
 use Rattle.lichenhusk.specs.Strip.{lookupWords, stripAfter}
 
 -- what can be asked
@@ -17,6 +17,7 @@ pub data Asked : Type 0 where
   layer : (d o : List ℕ) → Asked
   lookup : (d o q : List ℕ) → Asked
   listing : (d o words : List ℕ) → Asked
+  listed : (d o words : List ℕ) → Asked
   lookups : (d o names ends words : List ℕ) → Asked
   rows : (d o names ends words : List ℕ) → Asked
   strip : (d o q bytes : List ℕ) → Asked
@@ -32,6 +33,7 @@ tell (verdict d) = answers (dictionary.verdict d)
 tell (layer d o) = answers (object.verdict d o)
 tell (lookup d o q) = answers (by-name.lookup d o q)
 tell (listing d o words) = leaves (wordsAfter d o words)
+tell (listed d o words) = answers (list-of d o words)
 tell (lookups d o names ends words) = answers (many.lookups d o names ends words)
 tell (rows d o names ends words) = leaves (many.rowsAfter d o names ends words)
 tell (strip d o q bytes) = leaves (stripAfter bytes (lookupWords d o q))
@@ -46,6 +48,14 @@ P = 0x02 ∷ 0x02 ∷ 0x00 ∷ 0x01 ∷ 0x01 ∷ 0x00 ∷ 0x03 ∷ 0x04 ∷ 0x0C
 -- "roll" alone, whose id is 1
 abbrev pub alone : List ℕ
 alone = 0x02 ∷ 0x01 ∷ 0x01 ∷ 0x00 ∷ 0x01 ∷ 0x0C ∷ []
+
+-- "flow" is `0C FB`, a byte of no child follows, and "roll" is `04`
+abbrev pub gap : List ℕ
+gap = 0x02 ∷ 0x02 ∷ 0x00 ∷ 0x01 ∷ 0x00 ∷ 0x03 ∷ 0x04 ∷ 0x0C ∷ 0xFB ∷ 0xFF ∷ 0x04 ∷ []
+
+-- "roll" is of primitive type 21, which there is not
+abbrev pub unknown : List ℕ
+unknown = 0x02 ∷ 0x02 ∷ 0x00 ∷ 0x01 ∷ 0x00 ∷ 0x02 ∷ 0x03 ∷ 0x0C ∷ 0xFB ∷ 0x54 ∷ []
 
 abbrev pub flow : List ℕ
 flow = 0x66 ∷ 0x6C ∷ 0x6F ∷ 0x77 ∷ []
@@ -62,7 +72,8 @@ run = flow ++ rol ++ roll ++ 0x2E ∷ 0x2E ∷ []
 
 -- THE TABLE, with the ids and the strip of request c) and the 28 of request e); then request b)'s row, one for request c), where field and id
 -- differ, those of many names: their rows, a word that stays, an end that falls, one that passes the run, and a word too few; and those of
--- request e): its second case, 28 of field 0 before 27 of field 1, and 27 of field 0 before 28 of field 1
+-- request e): its second case, 28 of field 0 before 27 of field 1, and 27 of field 0 before 28 of field 1; and those of request f): a byte
+-- between two children that is in no span, and a child of type 21, said before the room that is short
 abbrev pub starred : List (Asked × Told)
 starred =
     (verdict (0x01 ∷ 0x00 ∷ 0x00 ∷ []), answers (accept (0 ∷ 3 ∷ [])))
@@ -96,4 +107,7 @@ starred =
     ∷ (layer D (0x02 ∷ 0x01 ∷ 0x00 ∷ 0x01 ∷ 0x01 ∷ 0x00 ∷ []), answers (refuse 28 0))
     ∷ (layer D (0x02 ∷ 0x02 ∷ 0x00 ∷ 0x01 ∷ 0x01 ∷ 0x02 ∷ 0x01 ∷ 0x00 ∷ []), answers (refuse 28 0))
     ∷ (layer D (0x02 ∷ 0x02 ∷ 0x00 ∷ 0x01 ∷ 0x02 ∷ 0x01 ∷ 0x01 ∷ 0x00 ∷ []), answers (refuse 27 0))
+    ∷ (listing D gap (replicate 7 9), leaves (0 ∷ 7 ∷ 2 ∷ 1 ∷ 10 ∷ 1 ∷ 9 ∷ []))
+    ∷ (listed D unknown (replicate 5 9), answers (refuse 43 1))
+    ∷ (listing D unknown (replicate 6 9), leaves (replicate 6 9))
     ∷ []

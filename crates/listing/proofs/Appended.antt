@@ -1,34 +1,45 @@
 -- Bytes added after the dictionary, after the object or after both, each within the limit, change neither the listing nor its words, unless
 -- the answer was empty or short (11, 13, 21 or 23). Assumes nothing.
-use Rattle.rules.proofs.Prelude.{_≡_, refl, false, List, [], _∷_, _++_, ℕ, zero, suc, _+_, _*_, _≤_, _<_, arith, length, drop, Found, Stays, codeOf, first}
+use Rattle.rules.proofs.Prelude.{_≡_, refl, false, List, [], _∷_, _++_, ℕ, _+_, _*_, _≤_, _<_, arith, length, drop, Found, Stays, codeOf, first, each, _orElse_}
 use Rattle.rules.proofs.Prelude.{unlessRefused, each-same, _otherwise_, _<?_, _⇒_at_, pass, stop, both-pass, same-stays, stays-then, stays-answer}
 use Rattle.metadata.specs.Limits.{limit}
-use Rattle.object.specs.Object.{count, offset, start, checks, layer}
+use Rattle.part.proofs.Laws.{part-append}
+use Rattle.object.specs.Object.{count, offset, start, end, checks, layer}
+use Rattle.object.specs.Meaning.{InRegion}
+use Rattle.object.proofs.Laws.{end-is}
 use Rattle.object.proofs.Means.{good}
-use Rattle.object.proofs.Appended.{lifted, Settled, unlifted, counted, count-same, start-same, id-same, offset-same, layer-same, checks-kept}
-use Rattle.listing.specs.Words.{leastAbove, span, row, rows, listChecks, listChecksWithin, listed, listedWithin, wordsAfter, wordsAfterWithin}
-
--- equal numbers up to n: the same least above
-least-same : (f g : ℕ → ℕ) (x n : ℕ) → ((k : ℕ) → k < n → f k ≡ g k) → leastAbove f x n ≡ leastAbove g x n
-unfolding leastAbove
-least-same f g x zero h = refl
-least-same f g x (suc n) h = rw (least-same f g x n (λ k p. h k (omega arith)), h n (omega arith))
+use Rattle.object.proofs.Appended.{lifted, Settled, unlifted, counted, count-same, start-same, id-same, offset-same, end-same, layer-same, checks-kept}
+use Rattle.listing.specs.Words.{child, span, spanRules, row, rows, listChecks, listChecksWithin, listed, listedWithin, wordsAfter, wordsAfterWithin}
 
 module _ (o u : List ℕ) (h : start o ≤ length o) where
-  span-same : (k : ℕ) → k < count o → span (o ++ u) k ≡ span o k
-  unfolding span
-  span-same k p =
-      rw (count-same o u (counted o u h), offset-same o u h k (omega arith))
-      (rw (least-same (offset (o ++ u)) (offset o) (offset o k) (count o + 1) (λ j q. offset-same o u h j (omega arith))))
+  -- A CHILD that lies within the bytes is the same, and so is all that is said of it
+  module _ (whole : end o ≤ length o) (k : ℕ) (p : k < count o) (here : InRegion o k) where
+    child-same : child (o ++ u) k ≡ child o k
+    unfolding child
+    child-same =
+        rw (start-same o u (counted o u h), offset-same o u h k (omega arith), end-same o u h)
+        (part-append o u (start o + offset o k) (end o) (omega (arith, end-is o)) whole)
 
-  rows-same : (n : ℕ) → n ≤ count o → rows (o ++ u) n ≡ rows o n
+    span-same : span (o ++ u) k ≡ span o k
+    unfolding span
+    span-same = rw child-same
+
+    rules-same : spanRules (o ++ u) k ≡ spanRules o k
+    unfolding spanRules
+    rules-same = rw child-same
+
+  rows-same : end o ≤ length o → ((k : ℕ) → k < count o → InRegion o k) → (n : ℕ) → n ≤ count o → rows (o ++ u) n ≡ rows o n
   unfolding row
-  rows-same n p =
+  rows-same whole here n p =
       each-same (row (o ++ u)) (row o) n λ k q.
-      rw (id-same o u h k (omega arith), start-same o u (counted o u h), offset-same o u h k (omega arith), span-same k (omega arith))
+      let r : k < count o = omega arith in
+      rw (id-same o u h k r, start-same o u (counted o u h), offset-same o u h k (omega arith), span-same whole k r (here k r))
 
 module _ (d t o u w : List ℕ) (dictionary-limit : length (d ++ t) ≤ limit) (object-limit : length (o ++ u) ≤ limit) where
-  -- the last check, and the words of a listing that is not refused
+  -- the last two checks, and the words of a listing that is not refused
+  abbrev measured : List ℕ → Found
+  measured x = first (each (spanRules x) (count x))
+
   abbrev room : List ℕ → Found
   room x = first ((length w <? 3 * count x ⇒ 41 at 0) ∷ [])
 
@@ -38,8 +49,12 @@ module _ (d t o u w : List ℕ) (dictionary-limit : length (d ++ t) ≤ limit) (
   list-kept : Stays lifted (listChecks d o w) (listChecks (d ++ t) (o ++ u) w)
   unfolding listChecksWithin
   list-kept =
-      stays-then lifted (checks d o) (checks (d ++ t) (o ++ u)) (room o) (room (o ++ u)) (checks-kept d t o u dictionary-limit object-limit) λ e.
-      let g = good d o e in rw (count-same o u (omega arith)) (same-stays lifted (room o))
+      stays-then lifted (checks d o) (checks (d ++ t) (o ++ u)) (measured o orElse room o) (measured (o ++ u) orElse room (o ++ u))
+      (checks-kept d t o u dictionary-limit object-limit) λ e.
+      let g = good d o e in
+      let same : each (spanRules (o ++ u)) (count o) ≡ each (spanRules o) (count o) =
+      each-same (spanRules (o ++ u)) (spanRules o) (count o) λ k p. rules-same o u (omega arith) (omega arith) k p (g .offsets k p) in
+      rw (count-same o u (omega arith), same) (same-stays lifted (measured o orElse room o))
 
   accepted : listChecks d o w ≡ pass → checks d o ≡ pass
   unfolding listChecksWithin
@@ -57,7 +72,7 @@ module _ (d t o u w : List ℕ) (dictionary-limit : length (d ++ t) ≤ limit) (
       same : listChecks d o w ≡ pass → written (o ++ u) ≡ written o
       same e =
           let g = good d o (accepted e) in
-          rw (count-same o u (omega arith), rows-same o u (omega arith) (count o) (omega arith))
+          rw (count-same o u (omega arith), rows-same o u (omega arith) (omega arith) (g .offsets) (count o) (omega arith))
 
       go : (f : Found) → Stays lifted f (listChecks (d ++ t) (o ++ u) w) → (f ≡ pass → written (o ++ u) ≡ written o) → lifted (codeOf (f otherwise layer o)) ≡ false
           → unlessRefused (listChecks (d ++ t) (o ++ u) w) (written (o ++ u)) w ≡ unlessRefused f (written o) w

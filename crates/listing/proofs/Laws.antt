@@ -1,19 +1,21 @@
--- The least above a number, one more number at a time. Assumes nothing.
-use Rattle.rules.proofs.Prelude.{_≡_, refl, Bool, true, false, cond, _&&_, _||_, ℕ, _+_, _≤_, _<_, add-one, arith, ltb-true, ltb, leb}
-use Rattle.listing.specs.Words.{nearer, leastAbove}
+-- Where a child lies, and how far its span reaches. Assumes nothing.
+use Rattle.rules.proofs.Prelude.{_≡_, List, ℕ, _+_, _-_, _≤_, arith, length}
+use Rattle.part.specs.Part.{part}
+use Rattle.part.proofs.Laws.{part-length}
+use Rattle.value.proofs.Means.{bytes-at-hand}
+use Rattle.object.specs.Object.{offset, start, end}
+use Rattle.object.specs.Meaning.{InRegion}
+use Rattle.object.proofs.Laws.{end-is}
+use Rattle.listing.specs.Words.{child, span}
 
-pub nearer-within : (x best y m : ℕ) → x ≤ best → best < m → y < m → (x ≤ nearer x best y) × (nearer x best y < m)
-nearer-within x best y m p q r = go (ltb x y) refl (leb best x || ltb y best)
-  where
-    go : (u : Bool) → ltb x y ≡ u → (v : Bool) → (x ≤ cond (u && v) y best) × (cond (u && v) y best < m)
-    go true e true = (omega (arith, ltb-true x y e), r)
-    go true e false = (p, q)
-    go false e v = (p, q)
+module _ (o : List ℕ) (k : ℕ) where
+  pub child-is : (a e : ℕ) → a ≡ start o + offset o k → e ≡ end o → part o a e ≡ child o k
+  unfolding child
+  child-is a e p q = rw (p, q)
 
-pub least-none : (f : ℕ → ℕ) (x : ℕ) → x ≡ leastAbove f x 0
-unfolding leastAbove
-least-none f x = refl
-
-pub least-more : (f : ℕ → ℕ) (x k : ℕ) {best y : ℕ} → best ≡ leastAbove f x k → y ≡ f k → nearer x best y ≡ leastAbove f x (k + 1)
-unfolding leastAbove
-least-more f x k p q = rw (p, q, add-one k)
+  module _ (here : InRegion o k) (whole : end o ≤ length o) where
+    -- a field's start plus its span is at most the trimmed end
+    pub span-inside : start o + offset o k + span o k ≤ end o
+    unfolding child span
+    span-inside =
+        omega (arith, bytes-at-hand (child o k), part-length o (start o + offset o k) (end o) (omega (arith, end-is o)) whole, end-is o)

@@ -1,5 +1,6 @@
 pub mod Laws
 pub mod Rows
+pub mod Means
 pub mod Listed
 pub mod Lists
 pub mod Pinned

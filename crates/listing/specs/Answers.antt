@@ -7,5 +7,6 @@ use Rattle.listing.specs.declared.Listing.the-variants as listing
 
 abbrev pub listingNumbers : Listing → Answer
 listingNumbers (listing.Refused r) = refused r
+listingNumbers (listing.NoLength k) = refuse 43 k
 listingNumbers listing.NoRoom = refuse 41 0
 listingNumbers (listing.Listed n v e) = accept (n ∷ v ∷ e ∷ [])

@@ -2,3 +2,4 @@ pub mod Words
 pub mod Meaning
 pub mod Answers
 pub mod Promises
+pub mod Steps

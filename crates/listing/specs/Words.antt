@@ -1,27 +1,22 @@
--- The listing of an object's fields (document 01, "Listing"): d is the dictionary's bytes, o the object's. Assumes nothing.
-use mathlib.Core.Bool.{cond, _&&_, _||_}
+-- The listing of an object's fields (document 01, "Listing", and request f) of document 02): d is the dictionary's bytes, o the object's. Assumes nothing.
 use mathlib.Core.List.{List, [], _∷_, _++_}
-use Prim.Native.Nat.{ℕ, zero, suc, _+_, _-_, _*_}
-use lib.Dec.{ltb, leb}
+use Prim.Native.Nat.{ℕ, _+_, _*_}
 use lib.ListN.{length, drop}
-use Rattle.rules.specs.Rules.{Answer, Found, first, each, _orElse_, _otherwise_, unlessRefused}
+use Rattle.part.specs.Part.{part}
+use Rattle.rules.specs.Rules.{Answer, Rule, Found, first, each, _orElse_, _otherwise_, unlessRefused}
 use Rattle.rules.specs.Rules.Rule.{_⇒_at_}
-use Rattle.rules.specs.Rules.Test.{_<?_}
+use Rattle.rules.specs.Rules.Test.{_<?_, isn't}
 use Rattle.metadata.specs.Limits.{limit}
-use Rattle.object.specs.Object.{count, id, offset, start, checksWithin, layer}
+use Rattle.value.specs.Encoding.{ownLength, isKnown, bytesOf}
+use Rattle.object.specs.Object.{count, id, offset, start, end, checksWithin, layer}
 
--- The span runs to the least of the n + 1 offsets above the field's own, and is 0 if none is
+-- Field k's child runs from the region's start plus its offset to the trimmed end
+unfoldable pub child : List ℕ → ℕ → List ℕ
+child o k = part o (start o + offset o k) (end o)
 
--- the least above x of f 0, f 1 and so on up to n; x where none is
-abbrev pub nearer : ℕ → ℕ → ℕ → ℕ
-nearer x best y = cond (ltb x y && (leb best x || ltb y best)) y best
-
-unfoldable pub leastAbove : (ℕ → ℕ) → ℕ → ℕ → ℕ
-leastAbove f x zero = x
-leastAbove f x (suc n) = nearer x (leastAbove f x n) (f n)
-
+-- the span is its own length (document 02, f)
 unfoldable pub span : List ℕ → ℕ → ℕ
-span o k = leastAbove (offset o) (offset o k) (count o + 1) - offset o k
+span o k = bytesOf (ownLength (child o k))
 
 -- three words a field in field order: id, start, span
 unfoldable pub row : List ℕ → ℕ → List ℕ
@@ -30,9 +25,16 @@ row o k = id o k ∷ (start o + offset o k) ∷ span o k ∷ []
 abbrev pub rows : List ℕ → ℕ → List ℕ
 rows o = each (row o)
 
--- 41, listing room below three words a field, is checked last; `most` is the longest that is read
+-- of field k: its child has no own length
+unfoldable pub spanRules : List ℕ → ℕ → List Rule
+spanRules o k = (isn't (isKnown (ownLength (child o k))) ⇒ 43 at k) ∷ []
+
+-- 43 comes just before 41, listing room below three words a field, which is checked last; `most` is the longest that is read
 unfoldable pub listChecksWithin : ℕ → (d o words : List ℕ) → Found
-listChecksWithin most d o words = checksWithin most d o orElse first ((length words <? 3 * count o ⇒ 41 at 0) ∷ [])
+listChecksWithin most d o words =
+    checksWithin most d o
+    orElse first (each (spanRules o) (count o))
+    orElse first ((length words <? 3 * count o ⇒ 41 at 0) ∷ [])
 
 unfoldable pub listedWithin : ℕ → (d o words : List ℕ) → Answer
 listedWithin most d o words = listChecksWithin most d o words otherwise layer o

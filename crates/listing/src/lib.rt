@@ -1,18 +1,24 @@
 // The listing of an object's fields into lent words.
 ghost use mathlib.Core.Path.{_≡_};
+ghost use mathlib.Core.Bool.{_&&_};
 ghost use mathlib.Core.List.{_++_};
-ghost use Prim.Native.Nat.{ℕ, _+_, _-_, _*_, _≤_, _<_};
+ghost use Prim.Native.Nat.{ℕ, _*_, _≤_, _<_};
 ghost use lib.ListN.{length, drop};
-ghost use Rattle.object.specs.Object.{count as countOf, offset as offsetOf};
+ghost use Rattle.rules.specs.Rules.{first, each};
+ghost use Rattle.value.specs.Encoding.{ownLength};
+ghost use Rattle.object.specs.Object.{count as countOf};
 ghost use Rattle.object.specs.Meaning.{InRegion};
 ghost use Rattle.object.specs.Steps.{LayerOf};
-ghost use Rattle.listing.specs.Words.{nearer, leastAbove, rows};
+ghost use Rattle.listing.specs.Words.{child as childOf, spanRules, rows};
+ghost use Rattle.listing.specs.Steps.{foundOf, isAll, answerOf};
 ghost use Rattle.listing.specs.Promises.{ListPromise};
 use object::Layer;
 use object::Opening;
 
+// The layer's refusals; 43, at the first field whose child has no own length; 41; or the layer's numbers.
 pub enum Listing {
     Refused(object::Refusal),
+    NoLength(usize),
     NoRoom,
     Listed {
         count: usize,
@@ -21,46 +27,73 @@ pub enum Listing {
     },
 }
 
-// The lesser of two numbers above x, where the first may be none: then it is x.
-fn nearer_above(x: usize, best: usize, y: usize) -> usize
-    ensures { λ r. ⌜ r ≡ nearer x best y ⌝ }
+// The own length of field k's child.
+fn own_length(object: &[u8], l: Layer, k: usize) -> value::Length
+    requires { ⌜ LayerOf (now object) l × (k < countOf (now object)) × InRegion (now object) k ⌝ }
+    ensures { λ r. ⌜ r ≡ ownLength (childOf (now (object .entry)) k) ⌝ }
 {
-    if y <= x {
-        return best;
-    }
-    if best <= x {
-        return y;
-    }
-    if y < best {
-        return y;
-    }
-    best
+    let start = l.start + object::offset_at(object, l, k);
+    let end = l.end;
+    value::own_length(&object[start..end])
 }
 
-// The least of the n + 1 offsets above x; x where none is.
-fn least_above(object: &[u8], l: Layer, x: usize) -> usize
-    requires { ⌜ LayerOf (now object) l × (x < 4294967296) ⌝ }
-    ensures { λ r. ⌜ (r ≡ leastAbove (offsetOf (now (object .entry))) x (countOf (now (object .entry)) + 1)) × (x ≤ r) × (r < 4294967296) ⌝ }
+// What the measuring of all children comes to.
+enum Measured {
+    NoLength(usize),
+    All,
+}
+
+// Check 43, field by field.
+fn measure(object: &[u8], l: Layer) -> Measured
+    requires { ⌜ LayerOf (now object) l × ((k : ℕ) → k < countOf (now object) → InRegion (now object) k) ⌝ }
+    ensures { λ r. ⌜ foundOf r ≡ first (each (spanRules (now (object .entry))) (countOf (now (object .entry)))) ⌝ }
 {
     let count = l.count;
-    let mut best = x;
     let mut k = 0;
-    while k <= count {
-        best = nearer_above(x, best, object::offset_at(object, l, k));
+    while k < count {
+        let known = value::is_known(own_length(object, l, k));
+        if !known {
+            return Measured::NoLength(k);
+        }
         k += 1;
     }
-    best
+    Measured::All
 }
 
-// From x to the least of the offsets above it; 0 where none is.
-fn span_above(object: &[u8], l: Layer, x: usize) -> usize
-    requires { ⌜ LayerOf (now object) l × (x < 4294967296) ⌝ }
-    ensures { λ r. ⌜ (r ≡ leastAbove (offsetOf (now (object .entry))) x (countOf (now (object .entry)) + 1) - x) × (r < 4294967296) ⌝ }
+fn has_all(measured: Measured) -> bool
+    ensures { λ r. ⌜ r ≡ isAll measured ⌝ }
 {
-    least_above(object, l, x) - x
+    match measured {
+        Measured::NoLength(_) => false,
+        Measured::All => true,
+    }
 }
 
-// The words of all fields: id, start, span.
+// Check 41, after 43: `short` says that the words are fewer than three a field.
+fn lacks_room(measured: Measured, short: bool) -> bool
+    ensures { λ r. ⌜ r ≡ (short && isAll measured) ⌝ }
+{
+    if short {
+        return has_all(measured);
+    }
+    false
+}
+
+// What is answered where there is room.
+fn answer(measured: Measured, l: Layer) -> Listing
+    ensures { λ r. ⌜ r ≡ answerOf measured l ⌝ }
+{
+    match measured {
+        Measured::NoLength(k) => Listing::NoLength(k),
+        Measured::All => Listing::Listed {
+            count: l.count,
+            start: l.start,
+            end: l.end,
+        },
+    }
+}
+
+// The words of all fields: id, start, span. A span is measured again: to keep those of the check there is no room.
 fn write_rows(object: &[u8], l: Layer, words: &mut [u32])
     requires { ⌜ LayerOf (now object) l × ((k : ℕ) → k < countOf (now object) → InRegion (now object) k) × (3 * countOf (now object) ≤ length (now words)) ⌝ }
     ensures { λ _. ⌜ now (words .exit) ≡ rows (now (object .entry)) (countOf (now (object .entry))) ++ drop (3 * countOf (now (object .entry))) (now (words .entry)) ⌝ }
@@ -70,15 +103,16 @@ fn write_rows(object: &[u8], l: Layer, words: &mut [u32])
     let mut k = 0;
     while k < fields {
         let offset = object::offset_at(object, l, k);
+        let span = value::bytes_of(own_length(object, l, k));
         words[at] = object::id_at(object, l, k) as u32;
         words[at + 1] = (l.start + offset) as u32;
-        words[at + 2] = span_above(object, l, offset) as u32;
+        words[at + 2] = span as u32;
         at += 3;
         k += 1;
     }
 }
 
-// The listing of the fields into lent words.
+// The listing of the fields into lent words, all of them measured before the first is written.
 pub fn list(dict: &[u8], object: &[u8], words: &mut [u32]) -> Listing
     ensures { λ r. ⌜ ListPromise (now (dict .entry)) (now (object .entry)) (now (words .entry)) r (now (words .exit)) ⌝ }
 {
@@ -87,15 +121,15 @@ pub fn list(dict: &[u8], object: &[u8], words: &mut [u32]) -> Listing
         Opening::Refused(r) => Listing::Refused(r),
         Opening::Open(m) => {
             let l = m.layer;
-            if words.len() < 3 * l.count {
+            let measured = measure(object, l);
+            if lacks_room(measured, words.len() < 3 * l.count) {
                 return Listing::NoRoom;
             }
-            write_rows(object, l, words);
-            Listing::Listed {
-                count: l.count,
-                start: l.start,
-                end: l.end,
+            if !has_all(measured) {
+                return answer(measured, l);
             }
+            write_rows(object, l, words);
+            answer(measured, l)
         }
     }
 }

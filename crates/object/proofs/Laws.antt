@@ -1,7 +1,6 @@
 -- Where the layer's numbers stand, and by which table its checks are settled. Assumes nothing.
-use Rattle.rules.proofs.Prelude.{_≡_, refl, _∙_, List, ℕ, _+_, _-_, _*_, _≤_, _<_, mul-le-mul-left, mul-le-mul-right, arith, drop, Found, first, each, Passed}
+use Rattle.rules.proofs.Prelude.{_≡_, refl, _∙_, List, ℕ, _+_, _-_, _*_, _≤_, _<_, mul-le-mul-left, mul-le-mul-right, arith, Found, first, each, Passed}
 use Rattle.rules.proofs.Prelude.{_orElse_, pass, stop, both-pass, stops, goes, first-pass, each-passed}
-use Rattle.width.specs.Width.{le}
 use Rattle.names.specs.Search.{Rising}
 use Rattle.names.proofs.Laws.{below-before}
 use Rattle.names.proofs.Search.{rising-all}
@@ -37,13 +36,6 @@ module _ (o : List ℕ) where
   pub offset-inside : (w k : ℕ) → w ≡ offsetWidth o → k ≤ count o → offsetsStart o + w * k + w ≤ start o
   unfolding start
   offset-inside w k e h = rw e (omega (arith, mul-le-mul-left (offsetWidth o) h))
-
-  -- the last offset stands just before the region
-  pub last-is : {w r : ℕ} (v : ℕ) → w ≡ offsetWidth o → v ≡ start o → r ≡ le w (drop (v - w) o) → r ≡ offset o (count o)
-  unfolding start offset
-  last-is v p q e =
-      let at : start o - offsetWidth o ≡ offsetsStart o + offsetWidth o * count o = omega arith in
-      e ∙ rw (p, q, at)
 
   -- there are fewer fields than bytes
   pub count-below : count o < start o

@@ -1,4 +1,5 @@
 pub mod Laws
+pub mod Alike
 pub mod ByIds
 pub mod Means
 pub mod Accepts

@@ -4,12 +4,15 @@ use mathlib.Core.List.{List}
 use Prim.Native.Nat.{ℕ, _≤_, _<_}
 use Rattle.rules.specs.Rules.{Found, first, Passed}
 use Rattle.rules.specs.Rules.Found.{pass, stop}
+use lib.ListN.{length, getD}
+use Rattle.metadata.specs.Limits.{limit}
 use Rattle.metadata.specs.Steps as dictionary
 use Rattle.metadata.specs.declared.Header.{Header}
 use Rattle.metadata.specs.declared.Head.the-variants as dictionary-head
+use Rattle.layout.specs.declared.Widths.{Widths}
+use Rattle.layout.specs.Steps.{Few}
+use Rattle.value.specs.Encoding.{objectWidths}
 use Rattle.object.specs.declared.Refusal.{Refusal}
-use Rattle.object.specs.declared.Lead.{Lead}
-use Rattle.object.specs.declared.Places.{Places}
 use Rattle.object.specs.declared.Layer.{Layer}
 use Rattle.object.specs.declared.Head.{Head}
 use Rattle.object.specs.declared.Head.the-variants as head
@@ -20,30 +23,19 @@ use Rattle.object.specs.declared.Judged.the-variants as judged
 use Rattle.object.specs.declared.Message.{Message}
 use Rattle.object.specs.declared.Opening.{Opening}
 use Rattle.object.specs.declared.Opening.the-variants as opening
-use Rattle.object.specs.Object.{basicType, offsetWidth, idWidth, countWidth, count, idsStart, offsetsStart, start, end, headRules, checks}
+use Rattle.object.specs.Object.{basicType, offsetWidth, idWidth, count, idsStart, offsetsStart, start, end, headRules, checks}
 use Rattle.object.specs.Answers.{refusalNumber, refusalPlace}
 
 abbrev pub stopOf : Refusal → Found
 stopOf r = stop (refusalNumber r) (refusalPlace r)
 
--- byte 0
-pub record LeadOf (o : List ℕ) (l : Lead) : Type 0 where
-  pub type-is : l .«basic_type» ≡ basicType o
-  pub id-width-is : l .«id_width» ≡ idWidth o
-  pub id-some : 1 ≤ l .«id_width»
-  pub id-few : l .«id_width» ≤ 4
-  pub offset-width-is : l .«offset_width» ≡ offsetWidth o
-  pub offset-some : 1 ≤ l .«offset_width»
-  pub offset-few : l .«offset_width» ≤ 4
-  pub count-width-is : l .«count_width» ≡ countWidth o
-  pub count-some : 1 ≤ l .«count_width»
-  pub count-few : l .«count_width» ≤ 4
-
--- the count, and where the offsets and the region start
-pub record PlacesOf (o : List ℕ) (p : Places) : Type 0 where
-  pub count-is : p .count ≡ count o
-  pub offsets-is : p .offsets ≡ offsetsStart o
-  pub start-is : p .start ≡ start o
+-- byte 0: w has the widths that it says, of an object whose checks before them passed
+pub record LeadOf (o : List ℕ) (w : Widths) : Type 0 where
+  pub not-long : length o ≤ limit
+  pub not-empty : 1 ≤ length o
+  pub is-object : basicType o ≡ 2
+  pub widths-are : w ≡ objectWidths (getD o 0 0)
+  pub few : Few w
 
 -- the numbers of a header whose checks passed
 pub record LayerOf (o : List ℕ) (l : Layer) : Type 0 where

@@ -1,16 +1,16 @@
 // The object layer over a dictionary: its verdict, and its numbers for the layers above (object.rs: VariantObject).
 ghost use mathlib.Core.Path.{_≡_};
-ghost use mathlib.Core.Bool.{cond};
-ghost use Prim.Native.Nat.{_+_, _/_, _%_, _≤_, _<_};
-ghost use lib.Dec.{eqb};
+ghost use Prim.Native.Nat.{_≤_, _<_};
 ghost use lib.ListN.{length};
 ghost use Rattle.part.specs.Part.{part};
 ghost use Rattle.names.specs.Order.{below};
 ghost use Rattle.rules.specs.Rules.{first, each, Says};
 ghost use Rattle.rules.specs.Rules.Test.{_<?_, _≤?_, isn't, _and_};
-ghost use Rattle.object.specs.Object.{offsetWidth, count as countOf, start as regionStart, end as trimmedEnd, id as idOf, offset as offsetOf, nameRules, idRules, offsetRules, checks};
+ghost use Rattle.object.specs.Object.{count as countOf, id as idOf, offset as offsetOf, nameRules, idRules, offsetRules, checks};
 ghost use Rattle.object.specs.Promises.{CheckPromise};
-ghost use Rattle.object.specs.Steps.{LeadOf, PlacesOf, LayerOf, HeadOf, foundOf, IdSays, Over, CheckedOf, OpeningOf};
+ghost use Rattle.object.specs.Steps.{LeadOf, LayerOf, HeadOf, foundOf, IdSays, Over, CheckedOf, OpeningOf};
+use layout::Widths;
+use value::Header;
 
 // One case for each of the refusals 20 to 28, with its place, and the dictionary's own.
 pub enum Refusal {
@@ -57,69 +57,32 @@ pub enum Opening {
     Open(Message),
 }
 
-// What byte 0 says.
-struct Lead {
-    basic_type: usize,
-    id_width: usize,
-    offset_width: usize,
-    count_width: usize,
-}
-
-fn count_width(b: usize) -> usize
-    ensures { λ r. ⌜ (r ≡ cond (eqb (b / 64 % 2) 1) 4 1) × (1 ≤ r) × (r ≤ 4) ⌝ }
-{
-    if b / 64 % 2 == 1 {
-        return 4;
-    }
-    1
-}
-
-fn lead_of(object: &[u8]) -> Lead
-    requires { ⌜ 1 ≤ length (now object) ⌝ }
-    ensures { λ r. ⌜ LeadOf (now (object .entry)) r ⌝ }
-{
-    let b = width::wide(object[0]);
-    Lead {
-        basic_type: b % 4,
-        id_width: b / 16 % 4 + 1,
-        offset_width: b / 4 % 4 + 1,
-        count_width: count_width(b),
-    }
-}
-
-// The count, and where the offsets and the region start.
-struct Places {
-    count: usize,
-    offsets: usize,
-    start: usize,
-}
-
-fn places_of(object: &[u8], lead: Lead) -> Places
-    requires { ⌜ LeadOf (now object) lead × (1 + lead .«count_width» ≤ length (now object)) ⌝ }
-    ensures { λ r. ⌜ PlacesOf (now (object .entry)) r ⌝ }
-{
-    let w = lead.count_width;
-    let n = width::unpack_u32(object, 1, w);
-    let offsets = 1 + w + lead.id_width * n;
-    Places {
-        count: n,
-        offsets,
-        start: offsets + lead.offset_width * (n + 1),
-    }
-}
-
-// The trimmed end: the last offset stands just before the region.
-fn end_of(object: &[u8], w: usize, start: usize) -> usize
-    requires { ⌜ (w ≡ offsetWidth (now object)) × (1 ≤ w) × (w ≤ 4) × (start ≡ regionStart (now object)) × (start < 4294967296) × (start ≤ length (now object)) ⌝ }
-    ensures { λ r. ⌜ (r ≡ trimmedEnd (now (object .entry))) × (start ≤ r) ⌝ }
-{
-    start + width::unpack_u32(object, start - w, w)
-}
-
 // What a check comes to that hands the layer's numbers on.
 pub enum Head {
     Refused(Refusal),
     Good(Layer),
+}
+
+// Checks 23 and 24, those of the layout, and the numbers where they pass.
+fn read_layout(object: &[u8], w: Widths) -> Head
+    requires { ⌜ LeadOf (now object) w ⌝ }
+    ensures { λ r. ⌜ HeadOf (now (object .entry)) r ⌝ }
+{
+    let head = layout::read(object, w);
+    match head {
+        layout::Head::Cut => Head::Refused(Refusal::Short),
+        layout::Head::Sum => Head::Refused(Refusal::Sum),
+        layout::Head::Longer => Head::Refused(Refusal::Short),
+        layout::Head::Good(n) => Head::Good(Layer {
+            id_width: w.id,
+            offset_width: w.offset,
+            count: n.count,
+            ids: 1 + w.count,
+            offsets: n.offsets,
+            start: n.start,
+            end: n.end,
+        }),
+    }
 }
 
 // Checks 20 to 24, and the numbers where they pass.
@@ -132,39 +95,13 @@ fn read_header(object: &[u8]) -> Head
     if object.len() < 1 {
         return Head::Refused(Refusal::Empty);
     }
-    let lead = lead_of(object);
-    if lead.basic_type != 2 {
-        return Head::Refused(Refusal::BasicType);
+    let header = value::header_of(object[0]);
+    match header {
+        Header::Object(w) => read_layout(object, w),
+        Header::Primitive(_) => Head::Refused(Refusal::BasicType),
+        Header::ShortString(_) => Head::Refused(Refusal::BasicType),
+        Header::List(_) => Head::Refused(Refusal::BasicType),
     }
-    if object.len() < 1 + lead.count_width {
-        return Head::Refused(Refusal::Short);
-    }
-    let places = places_of(object, lead);
-    if metadata::U32_MAX < places.offsets {
-        return Head::Refused(Refusal::Sum);
-    }
-    if metadata::U32_MAX < places.start {
-        return Head::Refused(Refusal::Sum);
-    }
-    if object.len() < places.start {
-        return Head::Refused(Refusal::Short);
-    }
-    let end = end_of(object, lead.offset_width, places.start);
-    if metadata::U32_MAX < end {
-        return Head::Refused(Refusal::Sum);
-    }
-    if object.len() < end {
-        return Head::Refused(Refusal::Short);
-    }
-    Head::Good(Layer {
-        id_width: lead.id_width,
-        offset_width: lead.offset_width,
-        count: places.count,
-        ids: 1 + lead.count_width,
-        offsets: places.offsets,
-        start: places.start,
-        end,
-    })
 }
 
 // Field k's id. Like offset_at it tests nothing: the layers above call both for fields of a checked layer.

@@ -4,6 +4,7 @@ ghost use lib.ListN.{length};
 ghost use Rattle.object.specs.Steps.{Over};
 
 pub mod files;
+pub mod kinds;
 
 use ask::Answer;
 use ask::room::ROOM;
@@ -71,6 +72,7 @@ fn meaning_of_object(code: usize) -> bool {
         27 => tell(b"its offset is above the value region's length"),
         28 => tell(b"its child has no bytes"),
         41 => tell(b"the answer has more words than there is room for"),
+        43 => tell(b"its child is of no known type, or its own length passes the object's end"),
         _ => tell(b"its end falls or passes the bytes of the names"),
     }
 }
@@ -83,7 +85,7 @@ fn place(a: Answer) {
             tell(b" of the value region");
         }
         17 | 18 => say(b" at entry ", a.place),
-        25..=28 => say(b" at field ", a.place),
+        25..=28 | 43 => say(b" at field ", a.place),
         45 => say(b" at name ", a.place),
         _ => {}
     }
@@ -91,7 +93,7 @@ fn place(a: Answer) {
 
 fn is_object(code: usize) -> bool {
     match code {
-        20..=28 | 41 | 45 => true,
+        20..=28 | 41 | 43 | 45 => true,
         _ => false,
     }
 }
@@ -251,8 +253,24 @@ pub fn find_all(dict: &[u8], object: &[u8], names: &[u8], ends: &[u32]) {
     rows(object, names, ends, words);
 }
 
+// So many bytes of `s` from `start` on; nothing where there are fewer.
+fn bytes_at(s: &[u8], start: usize, count: usize) -> &[u8] {
+    part_of(part_of(s, start, s.len()), 0, count)
+}
+
+// What kind of value a child is, and its own bytes.
+fn child(bytes: &[u8]) {
+    if bytes.len() < 1 {
+        return;
+    }
+    tell(b", ");
+    kinds::kind(bytes[0]);
+    tell(b":");
+    ask::write_hex(bytes);
+}
+
 // A field of a listing over a dictionary that was checked: nothing is checked again.
-fn field(dict: &[u8], h: metadata::Header, id: usize, start: usize, span: usize)
+fn field(dict: &[u8], h: metadata::Header, object: &[u8], id: usize, start: usize, span: usize)
     requires { ⌜ Over (now dict) h ⌝ }
 {
     tell(b"  ");
@@ -265,11 +283,12 @@ fn field(dict: &[u8], h: metadata::Header, id: usize, start: usize, span: usize)
     say(b": id ", id);
     say(b", start ", start);
     say(b", span ", span);
+    child(bytes_at(object, start, span));
     tell(b"\n");
 }
 
 // The fields of a listing, three words a field.
-fn fields(dict: &[u8], words: &[u32]) {
+fn fields(dict: &[u8], object: &[u8], words: &[u32]) {
     let head = metadata::checked(dict);
     match head {
         metadata::Head::Refused(_) => {}
@@ -279,6 +298,7 @@ fn fields(dict: &[u8], words: &[u32]) {
                 field(
                     dict,
                     h,
+                    object,
                     wide(words[at]),
                     wide(words[at + 1]),
                     wide(words[at + 2]),
@@ -305,5 +325,5 @@ pub fn list(dict: &[u8], object: &[u8]) {
     }
     let n = 3 * a.number;
     let filled = &words[..];
-    fields(dict, &filled[0..n]);
+    fields(dict, object, &filled[0..n]);
 }

@@ -141,6 +141,7 @@ pub fn of_listing(l: listing::Listing) -> Words
 {
     match l {
         listing::Listing::Refused(r) => of_object_refusal(r),
+        listing::Listing::NoLength(k) => refusal(43, k),
         listing::Listing::NoRoom => refusal(41, 0),
         listing::Listing::Listed { count, start, end } => answer(count, 0, start, end),
     }

@@ -176,6 +176,20 @@ fn words_of_refused(t: Tally) -> Tally {
     words(t, b"the words, which stay", &row, b": 9 9 9 9 9 9")
 }
 
+// Six words of 9 after the listing of an object over D whose second child is of type 21: the first is measured, and nothing is written.
+fn words_of_unmeasured(t: Tally) -> Tally {
+    let d = b"\x11\x02\x00\x04\x08flowroll";
+    let o = b"\x02\x02\x00\x01\x00\x02\x03\x0C\xFB\x54";
+    let mut listed = [9u32; 6];
+    let t = number(
+        t,
+        b"field 1 of type 21, listed into six words of 9",
+        ask::list(d, o, &mut listed).code,
+        43,
+    );
+    words(t, b"the words, which stay", &listed, b": 9 9 9 9 9 9")
+}
+
 // Document 01's two lengths, 65,536 bytes and one more: both are read. For what 10 and 20 refuse no program has room: the host's Rust tests
 // have those cases.
 fn long_dictionary(t: Tally) -> Tally {
@@ -216,7 +230,7 @@ fn long_object(t: Tally) -> Tally {
 
 pub fn run(t: Tally) -> Tally {
     let t = of_refused(of_a_byte(of_p(rooms(t))));
-    let t = words_of_refused(words_that_stay(t));
+    let t = words_of_unmeasured(words_of_refused(words_that_stay(t)));
     let t = number(
         t,
         b"P and any byte, \"flow\" found as in P",

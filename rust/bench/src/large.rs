@@ -153,7 +153,8 @@ fn at_once(row: Row) -> Line {
     }
 }
 
-fn samples(row: &Row) -> usize {
+/// So many samples are taken of a message.
+pub fn samples(row: &Row) -> usize {
     if row.bytes() > MANY_BYTES {
         FEW_SAMPLES
     } else {

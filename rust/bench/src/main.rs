@@ -1,5 +1,5 @@
 //! The clock: check and lookup together, the found field's id, UTF-8 alone, many names of one
-//! message, and larger messages, ours and the Rust's, in one process.
+//! message, all of its fields, and larger messages, ours and the Rust's, in one process.
 //!
 //! `cargo run --profile measured -p bench`; with `-- large`, or another word of `TABLES`, that
 //! table alone
@@ -7,6 +7,7 @@
 mod clock;
 mod ids;
 mod large;
+mod listing;
 mod many;
 mod rows;
 mod sides;
@@ -18,11 +19,13 @@ use std::process::{Command, exit};
 use std::{env, fs};
 
 /// The tables, in their order, and the word for each.
-const TABLES: [(&str, fn()); 5] = [
+const TABLES: [(&str, fn()); 7] = [
     ("lookup", lookups),
     ("ids", ids_too),
     ("text", texts_alone),
     ("many", many_names),
+    ("listing", || listings(&listing::SMALLER)),
+    ("listing-large", || listings(&listing::LARGEST)),
     ("large", large_messages),
 ];
 
@@ -59,7 +62,16 @@ Many names of one message, all of them there; each turn asks for others.
   singly    lichenhusk::lookup of each name, which checks dictionary and layer each time
 The names have twelve letters where nothing else is said.";
 
-/// The same for the fifth table.
+/// The same for the fifth table, and for the sixth, which is that of larger messages.
+const LISTING_LEGEND: &str = "\
+All fields of one message.
+  ours      lichenhusk::list_into: dictionary check, layer check and listing, in one call; the words
+            are lent
+  Rust      VariantMetadata::try_new and VariantObject::try_new, then iter over all fields
+  layer     lichenhusk::layer: what ours checks before it looks into the children
+Names have twelve letters, children two bytes.";
+
+/// The same for the last table.
 const LARGE_LEGEND: &str = "\
 Larger messages: microseconds of a call.
   ours      lichenhusk::lookup, or lichenhusk::lookup_all_into where 64 names are asked for at once
@@ -194,6 +206,26 @@ fn many_names() {
                 ours / singly,
             );
         }
+    }
+}
+
+/// A table of listings.
+fn listings(kinds: &[rows::Kind]) {
+    println!("{LISTING_LEGEND}\n");
+    println!(
+        "{:<40}{:>9}{:>9}{:>14}{:>14}{:>7}{:>14}{:>7}",
+        "row", "dict", "object", "ours", "Rust", "ratio", "layer", "ratio"
+    );
+    for row in listing::messages(kinds) {
+        let [ours, theirs, layer] = listing::measured(&row);
+        println!(
+            "{:<40}{:>9}{:>9}{ours:>14.1}{theirs:>14.1}{:>7.2}{layer:>14.1}{:>7.2}",
+            row.label,
+            row.dict.len(),
+            row.object.len(),
+            ours / theirs,
+            ours / layer,
+        );
     }
 }
 

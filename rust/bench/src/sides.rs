@@ -40,19 +40,12 @@ fn prepared(row: &Row) -> Prepared<'_> {
         });
         assert_eq!(ours, object.get(name), "{}: {name}", row.label);
     }
+    let starts = ObjectParts::of(&row.object).and_then(|parts| parts.starts(&row.object));
     Prepared {
         row,
         metadata,
-        starts: starts(&row.object).expect("a good object"),
+        starts: starts.expect("a good object"),
     }
-}
-
-/// Where each child starts, by the object's header: our listing looks at all offsets for each
-/// field, which is too long for many fields.
-fn starts(object: &[u8]) -> Option<Vec<usize>> {
-    let ObjectParts { ids, offsets, .. } = ObjectParts::of(object)?;
-    let start = |field| Some(offsets.end() + offsets.number(object, field)?);
-    (0..ids.count).map(start).collect()
 }
 
 /// The name that is asked for in a turn.

@@ -5,7 +5,7 @@
 //! Rust refuses is our number.
 //!
 //! Of an object over an accepted dictionary: the Rust accepts it exactly when our layer does and
-//! the Rust accepts each child that our listing gives; then counts, trimmed ends and names in
+//! the Rust accepts each child that we find; then counts, trimmed ends and names in
 //! field order are equal, each field is the value read from our child bytes, and a lookup finds
 //! exactly what `get` yields, with an id whose entry is the query, stands where the Rust reads the
 //! field's name and, in a sorted dictionary, is the one that `get_entry` finds; so does the row of
@@ -15,18 +15,20 @@
 //! Rust gives the same one first. So no layer of ours that is accepted has a child of no bytes, and
 //! 27 and 28 are told apart by the Rust's words; at which field, by [`bad_offsets`].
 //!
+//! The fields of an accepted layer are what a lookup of all of their names finds, in one call: each
+//! in its order, with the field's own id. So every field of every object is compared, whatever the
+//! listing says. The listing has the same ids and starts, and each child's own length as the Rust
+//! tells it, or is refused with 43 for a child that the Rust refuses: [`listing`](crate::listing) has
+//! that.
+//!
 //! Of our own answers besides: each function gives the same refusal; an accepted layer's numbers
-//! are those of its header; a listing's spans are those of its starts; a lookup's id is the
-//! listing's; words after a listing, and all words under a refusal, stay. Of many names at once,
-//! [`many`](crate::many) says the rest.
+//! are those of its header; a lookup's id is that of its field; words after a listing, and all words
+//! under a refusal, stay. Of many names at once, [`many`](crate::many) says the rest.
 //!
 //! Of larger inputs fewer entries and fields are asked for one by one, since each such question is a
-//! whole check. An object of more than 8,192 fields is not listed, since the time of that grows with
-//! the square of their number; instead the names of all fields are looked for in one call, which
-//! must find each of them in its order, with the field's own id, and its start is what is compared
-//! where the listing's is otherwise. So every field is compared all the same, but for its span. (In
-//! too little room a listing is asked for all the same: it is refused before it begins.)
+//! whole check.
 
+use crate::listing::Listing;
 use crate::many::Many;
 use crate::original::{
     dictionary_number, layer_number, may_be_object_number, place_in, same_value, traced,
@@ -36,7 +38,7 @@ use crate::ours::{Reader, absent, accepted, found, refused};
 use crate::reading::{DictionaryParts, ObjectParts};
 use crate::tally::Tally;
 use crate::{Input, LARGE, shown};
-use lichenhusk::{Field, LIMIT, OK, Strip, WORDS_PER_FIELD};
+use lichenhusk::{LIMIT, OK, Strip};
 use parquet_variant::{Variant, VariantMetadata, VariantObject};
 use std::cmp::Ordering;
 use std::fmt::{self, Debug};
@@ -50,9 +52,6 @@ fn asked(size: usize) -> usize {
         _ => 1,
     }
 }
-
-/// The most fields of an object that is listed.
-const LISTED: usize = 8_192;
 
 /// What a lent word holds before a call.
 pub const UNWRITTEN: u32 = 0xEEEE_EEEE;
@@ -387,6 +386,7 @@ impl<'d, R: Reader> Pair<'_, 'd, R> {
         self.numbers()?;
         self.have_bytes()?;
         let fields = self.placed()?;
+        self.listing().of(&fields, tally)?;
         let lookups = self.lookups(&fields, query)?;
         self.whole(&fields, &lookups, tally)?;
         self.alone(&fields, &lookups, tally)?;
@@ -403,6 +403,16 @@ impl<'d, R: Reader> Pair<'_, 'd, R> {
         Many {
             reader: self.reader,
             dict: self.dict,
+            object: self.bytes,
+            layer: self.layer,
+        }
+    }
+
+    fn listing(&self) -> Listing<'_, 'd, R> {
+        Listing {
+            reader: self.reader,
+            dict: self.dict,
+            metadata: self.metadata,
             object: self.bytes,
             layer: self.layer,
         }
@@ -438,41 +448,8 @@ impl<'d, R: Reader> Pair<'_, 'd, R> {
             && (!metadata.is_sorted() || metadata.get_entry(text).is_some_and(found))
     }
 
-    /// The fields by our answers: our listing or, of very many, our lookup of all their names.
-    fn placed(&self) -> Compared<Vec<Placed>> {
-        let fields = self.layer.number as usize;
-        if fields > 0 {
-            self.too_little_room(WORDS_PER_FIELD * fields - 1)?;
-        }
-        match fields {
-            0..=LISTED => self.listed(WORDS_PER_FIELD * fields),
-            _ => self.looked_up(),
-        }
-    }
-
-    fn too_little_room(&self, words: usize) -> Compared {
-        let mut room = vec![UNWRITTEN; words];
-        let listed = self.reader.list(self.dict, self.bytes, &mut room);
-        agree("a listing in too little room", listed, refused(41, 0))?;
-        let left = room.iter().all(|&word| word == UNWRITTEN);
-        agree("that the words are left under 41", left, true)
-    }
-
-    /// Our listing of so many words, after a look at what it may not touch.
-    fn listed(&self, length: usize) -> Compared<Vec<Placed>> {
-        let mut words = vec![UNWRITTEN; length + 2];
-        let listed = self.reader.list(self.dict, self.bytes, &mut words);
-        agree("a listing's numbers", listed, self.layer)?;
-        let after = words.split_off(length);
-        agree("the words after a listing", after, vec![UNWRITTEN; 2])?;
-        let fields: Vec<Field> = lichenhusk::fields_of(&words).collect();
-        self.spans(&fields)?;
-        let placed = |&Field { id, start, .. }: &Field| Placed { id, start };
-        Ok(fields.iter().map(placed).collect())
-    }
-
     /// What a lookup of all fields' names finds: each field in its order, with its own id.
-    fn looked_up(&self) -> Compared<Vec<Placed>> {
+    fn placed(&self) -> Compared<Vec<Placed>> {
         let parts = ObjectParts::of(self.bytes).expect("parts, since its numbers are theirs");
         let id = |field: usize| parts.ids.number(self.bytes, field);
         let ids: Vec<usize> = (0..parts.ids.count).filter_map(id).collect();
@@ -496,19 +473,6 @@ impl<'d, R: Reader> Pair<'_, 'd, R> {
             placed.push(Placed { id: row.id, start });
         }
         Ok(placed)
-    }
-
-    /// Each span runs to the least larger start, the trimmed end among them.
-    fn spans(&self, fields: &[Field]) -> Compared {
-        let mut borders: Vec<usize> = vec![self.layer.end as usize];
-        borders.extend(fields.iter().map(|field| field.start));
-        borders.sort_unstable();
-        for field in fields {
-            let above = borders.partition_point(|&border| border <= field.start);
-            let span = borders.get(above).map(|border| border - field.start);
-            agree("a field's span", Some(field.span), span)?;
-        }
-        Ok(())
     }
 
     /// The names that are looked for: the fields', others of the dictionary, and names near these.
@@ -540,12 +504,12 @@ impl<'d, R: Reader> Pair<'_, 'd, R> {
         Ok(queries.into_iter().zip(rows).map(ask).collect())
     }
 
-    /// The id that a lookup finds is the listing's.
+    /// The id that a lookup finds is its field's.
     fn ids(&self, fields: &[Placed], lookups: &[Lookup]) -> Compared {
         for Lookup { query, ours, .. } in lookups.iter().filter(|lookup| lookup.ours.code == OK) {
-            let listed = fields.get(ours.number as usize).map(|field| field.id);
-            if listed != Some(ours.id) {
-                return differ(&format!("the id of {}", shown(query)), ours.id, listed);
+            let placed = fields.get(ours.number as usize).map(|field| field.id);
+            if placed != Some(ours.id) {
+                return differ(&format!("the id of {}", shown(query)), ours.id, placed);
             }
         }
         Ok(())
@@ -657,11 +621,11 @@ impl<'d, R: Reader> Pair<'_, 'd, R> {
 
 /// A field by our answers.
 #[derive(Clone, Copy, Debug)]
-struct Placed {
+pub struct Placed {
     /// The entry of the dictionary that is its name.
-    id: u32,
+    pub id: u32,
     /// Where its child starts in the object.
-    start: usize,
+    pub start: usize,
 }
 
 /// A name, our answer to it alone, and the one to it among others.

@@ -94,13 +94,18 @@ pub fn binary(length: usize) -> Vec<u8> {
 pub fn list(elements: &[Vec<u8>]) -> Vec<u8> {
     let (offsets, region) = laid_out(elements);
     let width = least_width(region.len());
-    let long_count = elements.len() > 255;
+    list_of(&offsets, &region, width, elements.len() > 255)
+}
+
+/// The list of offsets (one more than elements) in so many bytes each, and the elements' bytes.
+pub fn list_of(offsets: &[usize], region: &[u8], width: usize, long_count: bool) -> Vec<u8> {
     let mut bytes = vec![3 | ((width - 1) as u8) << 2 | (long_count as u8) << 4];
-    put(&mut bytes, elements.len(), if long_count { 4 } else { 1 });
+    let count_width = if long_count { 4 } else { 1 };
+    put(&mut bytes, offsets.len() - 1, count_width);
     offsets
         .iter()
         .for_each(|&offset| put(&mut bytes, offset, width));
-    bytes.extend_from_slice(&region);
+    bytes.extend_from_slice(region);
     bytes
 }
 

@@ -4,7 +4,7 @@ use crate::LARGE;
 use crate::compare::bad_offsets;
 use crate::many::bad_ends;
 use crate::ours::{Reader, absent, accepted, found, refused};
-use crate::reading::ObjectParts;
+use crate::reading::{BINARY, ObjectParts, STRING, own_length};
 use lichenhusk::{ABSENT, OK, Strip, WORDS_PER_FIELD, WORDS_PER_NAME};
 
 /// What a wrong reader does wrong.
@@ -114,6 +114,28 @@ pub enum Fault {
     WritesPastListing,
     /// Writes a word though there is too little room.
     WritesUnderRefusal,
+    /// Lists spans up to the next larger offset, and refuses none, as it was before 43.
+    SpansToNextOffset,
+    /// Has a byte less for type 10 in the table of the primitive types.
+    ShortDecimals,
+    /// Does not know type 20.
+    NoUuids,
+    /// Takes type 21 for one without a payload.
+    TakesAnotherType,
+    /// Leaves the four bytes of a binary's length out of the binary's own.
+    NoHeldLength,
+    /// Takes a list's count for one of four bytes by the bit that says so of an object's.
+    ListCountsByObjectBit,
+    /// Measures children up to the object's last byte in place of its trimmed end.
+    UntrimmedChildren,
+    /// Says 43 of a string that is not UTF-8, which has a length all the same.
+    ReadsTexts,
+    /// Says 41 before 43.
+    RoomBeforeLengths,
+    /// Says 43 at the last child without a length.
+    LastUnmeasured,
+    /// Writes a word though a child has no length.
+    WritesUnmeasured,
     /// Gives the rows of many names in another order.
     RowsBackwards,
     /// Asks the first of many names again in place of the second.
@@ -133,7 +155,7 @@ pub enum Fault {
 }
 
 /// Every fault.
-pub const ALL: [Fault; 60] = [
+pub const ALL: [Fault; 71] = [
     Fault::AlwaysShort,
     Fault::AbsentIsFound,
     Fault::AlwaysAbsent,
@@ -186,6 +208,17 @@ pub const ALL: [Fault; 60] = [
     Fault::WrongIds,
     Fault::WritesPastListing,
     Fault::WritesUnderRefusal,
+    Fault::SpansToNextOffset,
+    Fault::ShortDecimals,
+    Fault::NoUuids,
+    Fault::TakesAnotherType,
+    Fault::NoHeldLength,
+    Fault::ListCountsByObjectBit,
+    Fault::UntrimmedChildren,
+    Fault::ReadsTexts,
+    Fault::RoomBeforeLengths,
+    Fault::LastUnmeasured,
+    Fault::WritesUnmeasured,
     Fault::RowsBackwards,
     Fault::FirstNameTwice,
     Fault::LeavesAbsentRows,
@@ -231,6 +264,18 @@ fn before_28(strip: Strip) -> Strip {
         28 => refused(27, strip.place),
         _ => strip,
     }
+}
+
+/// Where the children of an object that is accepted start.
+fn starts(object: &[u8]) -> Vec<usize> {
+    let starts = ObjectParts::of(object).and_then(|parts| parts.starts(object));
+    starts.expect("an object that is accepted has its offsets")
+}
+
+/// The least of the starts that is above a start, or the end.
+fn next_border(starts: &[usize], start: usize, end: usize) -> usize {
+    let above = starts.iter().filter(|&&other| other > start);
+    above.min().copied().unwrap_or(end)
 }
 
 /// A right reader with a fault put over its answers.
@@ -304,15 +349,7 @@ impl<R: Reader> Faulty<R> {
         other.unwrap_or_else(|| self.wrong(strip))
     }
 
-    /// The fields' starts, of an object that is accepted.
-    fn starts(&self, dict: &[u8], object: &[u8]) -> Vec<u32> {
-        let fields = self.reader.layer(dict, object).number as usize;
-        let mut words = vec![0; WORDS_PER_FIELD * fields];
-        self.reader.list(dict, object, &mut words);
-        words.chunks_exact(3).map(|field| field[1]).collect()
-    }
-
-    fn wrong_layer(&self, dict: &[u8], object: &[u8], strip: Strip) -> Strip {
+    fn wrong_layer(&self, object: &[u8], strip: Strip) -> Strip {
         if strip.code != OK {
             return self.wrong_refused(object, strip);
         }
@@ -325,7 +362,7 @@ impl<R: Reader> Faulty<R> {
             Fault::NoRegion => accepted(fields, 0, end),
             Fault::OneFieldMore => accepted(fields + 1, region, end),
             Fault::NoSharedChildren => {
-                let mut starts = self.starts(dict, object);
+                let mut starts = starts(object);
                 starts.sort_unstable();
                 match starts.windows(2).any(|pair| pair[0] == pair[1]) {
                     true => refused(27, 0),
@@ -333,11 +370,89 @@ impl<R: Reader> Faulty<R> {
                 }
             }
             Fault::NoShortChildren => {
-                let starts = self.starts(dict, object);
-                let short = starts.iter().position(|start| start + 1 == strip.end);
+                let short = starts(object).iter().position(|start| start + 1 == end);
                 short.map_or(strip, |field| refused(28, field as u32))
             }
             _ => self.wrong(strip),
+        }
+    }
+
+    /// Whether a fault lies in the lengths of children, or in what is due to those without.
+    fn is_of_lengths(&self) -> bool {
+        let of_lengths = Fault::SpansToNextOffset as usize..=Fault::WritesUnmeasured as usize;
+        of_lengths.contains(&(self.fault as usize))
+    }
+
+    /// The length that a fault takes a child to have.
+    fn wrong_length(&self, child: &[u8]) -> Option<usize> {
+        let length = own_length(child).ok();
+        let header = *child.first()?;
+        match (self.fault, header & 3, header as usize >> 2) {
+            (Fault::ShortDecimals, 0, 10) => Some(17).filter(|&length| length <= child.len()),
+            (Fault::NoUuids, 0, 20) => None,
+            (Fault::TakesAnotherType, 0, 21) => Some(1),
+            (Fault::NoHeldLength, 0, BINARY) => length.map(|length| length - 4),
+            (Fault::ReadsTexts, 0, STRING) => {
+                length.filter(|&length| std::str::from_utf8(&child[5..length]).is_ok())
+            }
+            (Fault::ListCountsByObjectBit, 3, _) => {
+                let mut copy = child.to_vec();
+                copy[0] = header & !0x10 | header >> 2 & 0x10;
+                own_length(&copy).ok()
+            }
+            _ => length,
+        }
+    }
+
+    /// The spans of a fault, in the order of the fields.
+    fn wrong_spans(&self, object: &[u8], starts: &[usize], end: usize) -> Vec<Option<usize>> {
+        let end = match self.fault {
+            Fault::UntrimmedChildren => object.len(),
+            _ => end,
+        };
+        let span = |&start: &usize| match self.fault {
+            Fault::SpansToNextOffset => Some(next_border(starts, start, end) - start),
+            _ => self.wrong_length(&object[start..end]),
+        };
+        starts.iter().map(span).collect()
+    }
+
+    /// The listing of a fault in lengths, where the layer is accepted.
+    fn wrong_listing(&self, dict: &[u8], object: &[u8], words: &mut [u32]) -> Option<Strip> {
+        if !self.is_of_lengths() {
+            return None;
+        }
+        let layer = self.reader.layer(dict, object);
+        if layer.code != OK {
+            return None;
+        }
+        let starts = starts(object);
+        let spans = self.wrong_spans(object, &starts, layer.end as usize);
+        let none = |span: &Option<usize>| span.is_none();
+        let unmeasured = match self.fault {
+            Fault::LastUnmeasured => spans.iter().rposition(none),
+            _ => spans.iter().position(none),
+        };
+        let little = words.len() < WORDS_PER_FIELD * starts.len();
+        match unmeasured {
+            Some(_) if little && self.fault == Fault::RoomBeforeLengths => Some(refused(41, 0)),
+            Some(field) => {
+                if self.fault == Fault::WritesUnmeasured && !words.is_empty() {
+                    words[0] = 0;
+                }
+                Some(refused(43, field as u32))
+            }
+            None if little => Some(refused(41, 0)),
+            None => {
+                let ids = ObjectParts::of(object)?.ids.numbers(object)?;
+                let (listed, _) = words.as_chunks_mut();
+                for (((words, id), start), span) in
+                    listed.iter_mut().zip(ids).zip(starts).zip(spans)
+                {
+                    *words = [id, start, span?].map(|number| number as u32);
+                }
+                Some(layer)
+            }
         }
     }
 
@@ -428,7 +543,7 @@ impl<R: Reader> Reader for Faulty<R> {
         if let Some(taken) = self.taken(dict, object) {
             return before_28(self.reader.layer(dict, &taken));
         }
-        self.wrong_layer(dict, object, self.reader.layer(dict, object))
+        self.wrong_layer(object, self.reader.layer(dict, object))
     }
 
     fn lookup(&self, dict: &[u8], object: &[u8], name: &[u8]) -> Strip {
@@ -437,8 +552,7 @@ impl<R: Reader> Reader for Faulty<R> {
         }
         let strip = self.reader.lookup(dict, object, name);
         let (field, id) = (strip.number as usize, strip.id as usize);
-        let (start, end) = (strip.start, strip.end as usize);
-        let from = start as usize;
+        let (from, end) = (strip.start as usize, strip.end as usize);
         match (self.fault, strip.code) {
             (Fault::AbsentIsFound, ABSENT) => accepted(0, 0, 0),
             (Fault::AlwaysAbsent, OK) => absent(),
@@ -460,9 +574,7 @@ impl<R: Reader> Reader for Faulty<R> {
             (Fault::IdOfAbsent, ABSENT) => Strip { id: 1, ..strip },
             (Fault::WholeObject, OK) => found(field, id, 0, end),
             (Fault::EndsAtNextOffset, OK) => {
-                let starts = self.starts(dict, object);
-                let next = starts.into_iter().filter(|&other| other > start).min();
-                found(field, id, from, next.map_or(end, |next| next as usize))
+                found(field, id, from, next_border(&starts(object), from, end))
             }
             _ => self.wrong_refused(object, strip),
         }
@@ -474,14 +586,12 @@ impl<R: Reader> Reader for Faulty<R> {
             return self.reader.list(dict, object, &mut words.to_vec());
         }
         if let Some(taken) = self.taken(dict, object) {
-            let strip = self.reader.list(dict, &taken, words);
-            let (fields, _) = words.as_chunks_mut::<WORDS_PER_FIELD>();
-            let ends = |[_, start, span]: &&mut [u32; WORDS_PER_FIELD]| *start + *span == strip.end;
-            let listed = fields.iter_mut().take(strip.number as usize);
-            listed.filter(ends).for_each(|[.., span]| *span -= 1);
-            return before_28(strip);
+            return before_28(self.reader.list(dict, &taken, words));
         }
-        let strip = self.wrong_layer(dict, object, self.reader.list(dict, object, words));
+        if let Some(strip) = self.wrong_listing(dict, object, words) {
+            return strip;
+        }
+        let strip = self.wrong_layer(object, self.reader.list(dict, object, words));
         let listed = room.min(3 * strip.number as usize);
         match (self.fault, strip.code) {
             (Fault::NoSpans, OK) => words[..listed].chunks_mut(3).for_each(|field| field[2] = 0),
@@ -519,6 +629,6 @@ impl<R: Reader> Reader for Faulty<R> {
         if strip.code == OK {
             self.wrong_rows(ends.len(), words, &lent);
         }
-        self.wrong_layer(dict, object, strip)
+        self.wrong_layer(object, strip)
     }
 }

@@ -4,6 +4,7 @@
 use crate::Input;
 use crate::encode::{self, DictionaryShape, ObjectShape, least_width};
 use crate::random::Random;
+use crate::reading::{BINARY, PAYLOADS, STRING};
 use std::iter::repeat_n;
 
 /// How deep values are nested at most, the outermost object included.
@@ -167,7 +168,7 @@ fn child(random: &mut Random, names: &[Vec<u8>], levels: usize) -> Vec<u8> {
 }
 
 /// A value with so many levels of containers in it at most.
-fn value(random: &mut Random, names: &[Vec<u8>], levels: usize) -> Vec<u8> {
+pub(crate) fn value(random: &mut Random, names: &[Vec<u8>], levels: usize) -> Vec<u8> {
     if levels > 0 && random.below(4) > 0 {
         let ids = field_ids(random, names, 3);
         let as_list = ids.is_empty() || random.one_in(2);
@@ -195,13 +196,6 @@ fn short_string(random: &mut Random) -> Vec<u8> {
     bytes.extend(text);
     bytes
 }
-
-/// Payload lengths of the primitive types; the text types have a length of their own before.
-const PAYLOADS: [usize; 21] = [
-    0, 0, 0, 1, 2, 4, 8, 8, 5, 9, 17, 4, 8, 8, 4, 0, 0, 8, 8, 8, 16,
-];
-const BINARY: usize = 15;
-const STRING: usize = 16;
 
 fn primitive(random: &mut Random) -> Vec<u8> {
     let kind = random.below(PAYLOADS.len());

@@ -1,11 +1,13 @@
 //! Lichenhusk and the Rust crate that it was ported from, given the same bytes.
 //!
-//! [`compare`] says what must agree, and [`many`] of many names at once; [`ours`] and [`original`]
-//! are the two sides; [`fixed`], [`exhaustive`], [`long_names`], [`generate`], [`large`] and
+//! [`compare`] says what must agree, [`listing`] of a listing and [`many`] of many names at once;
+//! [`ours`] and [`original`] are the two sides, and [`lengths`] has what the Rust tells of children's
+//! lengths; [`fixed`], [`exhaustive`], [`children`], [`long_names`], [`generate`], [`large`] and
 //! [`damage`] make the inputs; [`run`] goes through them, counting in a [`tally`], and has [`shrink`]
 //! make an input that disagrees as small as it can.
 //! [`replay`] writes answers of the Rust's down, to be asked again where it is not at hand.
 
+pub mod children;
 pub mod compare;
 pub mod damage;
 pub mod encode;
@@ -14,6 +16,8 @@ pub mod faults;
 pub mod fixed;
 pub mod generate;
 pub mod large;
+pub mod lengths;
+pub mod listing;
 pub mod long_names;
 pub mod many;
 pub mod original;

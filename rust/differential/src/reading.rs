@@ -1,6 +1,6 @@
 //! Where the parts of a dictionary or an object stand, by its header: the positions alone, with
 //! no verdict. It serves to damage a part on purpose, to put other children into an object, and to
-//! tell places.
+//! tell places. And how long a value is, by its first bytes.
 
 /// A row of numbers of one width.
 #[derive(Clone, Copy, Debug, PartialEq, Eq)]
@@ -128,6 +128,12 @@ impl ObjectParts {
         })
     }
 
+    /// Where each child starts, if the offsets are all there.
+    pub fn starts(&self, object: &[u8]) -> Option<Vec<usize>> {
+        let start = |field| Some(self.offsets.end() + self.offsets.number(object, field)?);
+        (0..self.ids.count).map(start).collect()
+    }
+
     /// The children's bytes, if they are all there.
     pub fn region<'o>(&self, object: &'o [u8]) -> Option<&'o [u8]> {
         region(self.offsets, object)
@@ -138,4 +144,85 @@ impl ObjectParts {
 fn region(offsets: Row, bytes: &[u8]) -> Option<&[u8]> {
     let length = offsets.number(bytes, offsets.count - 1)?;
     bytes.get(offsets.end()..)?.get(..length)
+}
+
+/// The offsets of a list, one more than elements, if its header and its count are there.
+pub fn list_offsets(list: &[u8]) -> Option<Row> {
+    let header = *list.first()? as usize;
+    let count = Row {
+        at: 1,
+        width: if header & 0x10 != 0 { 4 } else { 1 },
+        count: 1,
+    };
+    Some(Row {
+        at: count.end(),
+        width: (header >> 2 & 3) + 1,
+        count: count.number(list, 0)? + 1,
+    })
+}
+
+/// Bytes after the header byte, by primitive type. The four of [`BINARY`] and [`STRING`] are the
+/// length of what follows them.
+pub const PAYLOADS: [usize; 21] = [
+    0, 0, 0, 1, 2, 4, 8, 8, 5, 9, 17, 4, 8, 8, 4, 4, 4, 8, 8, 8, 16,
+];
+/// The two primitive types that hold a length.
+pub const BINARY: usize = 15;
+/// See there.
+pub const STRING: usize = 16;
+
+/// Why the bytes that begin with a value have not all of it.
+#[derive(Clone, Copy, Debug, PartialEq, Eq, PartialOrd, Ord)]
+pub enum Unmeasured {
+    /// It is of no known primitive type.
+    Unknown,
+    /// They end before its header does, or before what its header counts.
+    Cut,
+    /// It would end past the 32-bit range.
+    Sum,
+    /// They end before it does.
+    Longer,
+}
+
+/// The own length of the value that bytes begin with, by VariantEncoding.md.
+pub fn own_length(bytes: &[u8]) -> Result<usize, Unmeasured> {
+    let header = *bytes.first().ok_or(Unmeasured::Cut)?;
+    let upper = header as usize >> 2;
+    let length = match header & 3 {
+        0 => 1 + payload(bytes, upper)?,
+        1 => 1 + upper,
+        2 => end_by(ObjectParts::of(bytes).map(|parts| parts.offsets), bytes)?,
+        _ => end_by(list_offsets(bytes), bytes)?,
+    };
+    match length {
+        _ if length <= bytes.len() => Ok(length),
+        _ if length <= u32::MAX as usize => Err(Unmeasured::Longer),
+        _ => Err(Unmeasured::Sum),
+    }
+}
+
+/// The bytes after the header byte of a primitive.
+fn payload(bytes: &[u8], kind: usize) -> Result<usize, Unmeasured> {
+    let payload = *PAYLOADS.get(kind).ok_or(Unmeasured::Unknown)?;
+    if kind != BINARY && kind != STRING {
+        return Ok(payload);
+    }
+    let held = Row {
+        at: 1,
+        width: payload,
+        count: 1,
+    };
+    let held = held.number(bytes, 0).ok_or(Unmeasured::Cut)?;
+    Ok(payload + held)
+}
+
+/// Where what the last offset says ends, whether it is all there or not.
+fn end_by(offsets: Option<Row>, bytes: &[u8]) -> Result<usize, Unmeasured> {
+    let offsets = offsets.ok_or(Unmeasured::Cut)?;
+    let start = offsets.end();
+    match offsets.number(bytes, offsets.count - 1) {
+        Some(last) => Ok(start + last),
+        None if start <= u32::MAX as usize => Err(Unmeasured::Cut),
+        None => Err(Unmeasured::Sum),
+    }
 }

@@ -12,7 +12,7 @@ use crate::ours::Reader;
 use crate::random::Random;
 use crate::shrink::smallest;
 use crate::tally::{Tally, grouped};
-use crate::{Input, large, shown};
+use crate::{Input, children, large, shown};
 use std::fmt;
 use std::panic::{AssertUnwindSafe, catch_unwind};
 use std::time::{Duration, Instant};
@@ -127,6 +127,12 @@ impl<R: Reader> Run<'_, R> {
             "fixed: worked cases, limits of length, nesting",
             Self::fixed,
         )?;
+        self.kind("children of every header byte, whole and cut", |run| {
+            children::fixed().try_for_each(|input| run.input(&input))
+        })?;
+        self.kind("children generated, and damaged copies", |run| {
+            run.generated(run.settings.generated / 4, children::good)
+        })?;
         self.kind("every dictionary of few bytes", Self::every_dictionary)?;
         self.kind(
             "every object of few bytes, two dictionaries",

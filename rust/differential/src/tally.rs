@@ -1,6 +1,8 @@
 //! What a run has seen, counted.
 
 use crate::LARGE;
+use crate::lengths::Told;
+use crate::reading::{PAYLOADS, Unmeasured};
 use std::collections::BTreeMap;
 use std::fmt;
 
@@ -25,8 +27,22 @@ pub struct Tally {
     pub over_refused: u64,
     /// Copies with other children whose verdicts agree.
     pub traced: u64,
-    /// Fields whose ids and starts agree and, where they are listed, spans.
+    /// Fields whose ids and starts agree.
     pub fields: u64,
+    /// Listings that agree, and in which each child's own length does.
+    pub listings: u64,
+    /// Of these, the ones of objects with bytes that no child has.
+    pub listings_apart: u64,
+    /// Listings that are refused with 43, by what is wrong with the child.
+    pub unlisted: BTreeMap<Unmeasured, u64>,
+    /// Children whose own length agrees: primitives by their type.
+    pub primitives: [u64; PAYLOADS.len()],
+    /// The same of short strings, objects and lists.
+    pub others: [u64; 3],
+    /// Of these children, the ones that the Rust refuses for what they say.
+    pub lengths_of_refused: u64,
+    /// And the ones whose length the Rust cannot tell.
+    pub lengths_untold: u64,
     /// Lookups that found what `get` yields.
     pub found: u64,
     /// Lookups that are absent where `get` yields nothing.
@@ -55,6 +71,26 @@ impl Tally {
     /// Counts a number of ours.
     pub fn refuse(numbers: &mut BTreeMap<u32, u64>, number: u32) {
         *numbers.entry(number).or_default() += 1;
+    }
+
+    /// Counts a child whose own length agrees, by its header byte and what the Rust tells of it.
+    pub fn measure(&mut self, header: u8, told: Told) {
+        match header & 3 {
+            0 => self.primitives[header as usize >> 2] += 1,
+            basic_type => self.others[basic_type as usize - 1] += 1,
+        }
+        self.lengths_of_refused += u64::from(told == Told::Refuses);
+        self.lengths_untold += u64::from(told == Told::Nothing);
+    }
+}
+
+/// What is wrong with a child, in words.
+fn in_words(unmeasured: Unmeasured) -> &'static str {
+    match unmeasured {
+        Unmeasured::Unknown => "of no known type",
+        Unmeasured::Cut => "its header cut",
+        Unmeasured::Sum => "past 32 bits",
+        Unmeasured::Longer => "past the end",
     }
 }
 
@@ -90,7 +126,25 @@ impl fmt::Display for Tally {
         }
         line("objects over a refused dictionary", self.over_refused)?;
         line("objects with other children, the layer alone", self.traced)?;
-        line("fields listed, of very many looked up", self.fields)?;
+        line("fields, each found by its name", self.fields)?;
+        line("listings, each child's own length", self.listings)?;
+        line("  with bytes that no child has", self.listings_apart)?;
+        for (&unmeasured, count) in &self.unlisted {
+            let what = format!("listings refused, 43: a child {}", in_words(unmeasured));
+            line(&what, *count)?;
+        }
+        line("own lengths of primitives", self.primitives.iter().sum())?;
+        let rarest = self.primitives.iter().min().copied();
+        line("  of the rarest of the 21 types", rarest.unwrap_or(0))?;
+        let [short_strings, objects, lists] = self.others;
+        line("own lengths of short strings", short_strings)?;
+        line("own lengths of objects", objects)?;
+        line("own lengths of lists", lists)?;
+        line(
+            "own lengths of children that the Rust refuses",
+            self.lengths_of_refused,
+        )?;
+        line("own lengths that the Rust cannot tell", self.lengths_untold)?;
         line("lookups found", self.found)?;
         line("lookups absent", self.absent)?;
         line(

@@ -56,7 +56,7 @@ fn ids_of_a_name_that_is_there_twice() {
     assert_eq!(found.unwrap().id, 1);
 }
 
-/// A child of no known type, which we do not read.
+/// A child of no known type, which we do not read; listed, it has no length.
 #[test]
 fn children_that_are_no_values() {
     let object = [2, 1, 0, 0, 1, 0xFC];
@@ -65,6 +65,74 @@ fn children_that_are_no_values() {
         lichenhusk::child(SORTED, &object, b"flow"),
         Ok(Some(&[0xFC][..]))
     );
+    let no_length = Refusal::ChildLength { field: 0 };
+    assert_eq!(lichenhusk::list(SORTED, &object), Err(no_length));
+}
+
+/// The span of an only child over document 01's dictionary, and whether the Rust accepts the child.
+fn listed(child: &[u8]) -> (Result<usize, Refusal>, bool) {
+    let object = plain_object(&[0], &[child.to_vec()]);
+    let fields = lichenhusk::list(SORTED, &object);
+    let span = fields.map(|fields| fields[0].child.len());
+    (span, rust_accepts(SORTED, &object))
+}
+
+/// A child that the Rust refuses for what it says has a length all the same, and is listed. Of the
+/// last the Rust cannot tell the length, see `differential::lengths`; no shorter list is one without
+/// elements whose offset is not 0.
+#[test]
+fn lengths_of_children_that_are_no_values() {
+    for (why, child) in [
+        ("a short string that is not UTF-8", &b"\x05\x80"[..]),
+        ("a string that is not UTF-8", b"\x40\x01\x00\x00\x00\x80"),
+        (
+            "a decimal of too large a scale",
+            b"\x20\x0A\x00\x00\x00\x00",
+        ),
+        ("a date out of the calendar", b"\x2C\xFF\xFF\xFF\x7F"),
+        (
+            "a time stamp out of the calendar",
+            b"\x30\xFF\xFF\xFF\xFF\xFF\xFF\xFF\x7F",
+        ),
+        (
+            "a time after the day",
+            b"\x44\x00\x60\xD7\x1D\x14\x00\x00\x00",
+        ),
+        (
+            "an object with an id of no entry",
+            b"\x02\x01\x02\x00\x01\x00",
+        ),
+        (
+            "an object with a child of no bytes",
+            b"\x02\x01\x00\x00\x00",
+        ),
+        ("a list with an element of no bytes", b"\x03\x01\x00\x00"),
+        (
+            "a list with an element of no known type",
+            b"\x03\x01\x00\x01\x54",
+        ),
+        ("an empty list with an offset above 0", b"\x03\x00\x01\x00"),
+    ] {
+        assert_eq!(listed(child), (Ok(child.len()), false), "{why}");
+    }
+    let last_of_the_day = b"\x44\xFF\x5F\xD7\x1D\x14\x00\x00\x00";
+    assert_eq!(listed(last_of_the_day), (Ok(9), true));
+}
+
+/// 43 and a refusal of the Rust's, on what has no length.
+#[test]
+fn children_without_a_length() {
+    for child in [
+        &b"\x54"[..],
+        b"\x0C",
+        b"\x05",
+        b"\x3C\x00\x00\x00",
+        b"\x02",
+        b"\x03\x00",
+    ] {
+        let refused = Err(Refusal::ChildLength { field: 0 });
+        assert_eq!(listed(child), (refused, false), "{child:02X?}");
+    }
 }
 
 /// 10 and 20: the Rust has no limit of length.
@@ -92,13 +160,14 @@ fn nested(depth: usize) -> Vec<u8> {
     value
 }
 
-/// The Rust goes 128 deep; our layer does not go into the children.
+/// The Rust goes 128 deep; our layer does not go into the children, nor does our listing.
 #[test]
 fn nesting() {
     assert_eq!(MAX_NESTING_DEPTH, 128);
     assert!(rust_accepts(SORTED, &nested(128)));
     assert!(!rust_accepts(SORTED, &nested(129)));
     assert!(lichenhusk::layer(SORTED, &nested(129)).is_ok());
+    assert!(lichenhusk::list(SORTED, &nested(129)).is_ok());
 }
 
 /// Documented as free of panics on what was not validated, `get` panics all the same.

@@ -4,7 +4,9 @@
 use differential::compare::Disagreement;
 use differential::faults::{ALL, Fault, Faulty};
 use differential::ours::Archive;
+use differential::reading::Unmeasured;
 use differential::run::{Settings, disagreement, run};
+use differential::tally::Tally;
 use differential::{Input, LARGE, fixed, large};
 use lichenhusk::LIMIT;
 use std::collections::BTreeMap;
@@ -45,6 +47,29 @@ fn the_archive_passes() {
         let seen = outcome.tally.objects_refused.get(&number);
         assert!(seen.is_some_and(|&seen| seen > 20), "{number}: {seen:?}");
     }
+    children_of_every_kind_are_seen(&outcome.tally);
+}
+
+/// Children of every kind are listed, and listings refused for every cause.
+fn children_of_every_kind_are_seen(tally: &Tally) {
+    for (kind, &seen) in tally.primitives.iter().enumerate() {
+        assert!(seen > 50, "type {kind}: {seen}");
+    }
+    for (kind, &seen) in ["short strings", "objects", "lists"]
+        .iter()
+        .zip(&tally.others)
+    {
+        assert!(seen > 1_000, "{kind}: {seen}");
+    }
+    use Unmeasured::*;
+    for why in [Unknown, Cut, Sum, Longer] {
+        let seen = tally.unlisted.get(&why);
+        assert!(seen.is_some_and(|&seen| seen > 1_000), "{why:?}: {seen:?}");
+    }
+    assert!(tally.listings > 10_000, "{}", tally.listings);
+    assert!(tally.listings_apart > 1_000, "{}", tally.listings_apart);
+    let (refused, untold) = (tally.lengths_of_refused, tally.lengths_untold);
+    assert!(refused > 1_000 && untold > 0, "{refused} and {untold}");
 }
 
 /// How many bytes the input that tells a fault has at most: few, unless the fault is one of length
@@ -61,6 +86,8 @@ fn most(fault: Fault) -> usize {
         Fault::CountsOfTwoBytes | Fault::IdsOfTwoBytes => 3 * entries + few,
         // With names, and as many fields: an id and an offset each.
         Fault::FieldsOfTwoBytes | Fault::RowsOfTwoBytes => (4 + 6 + 3 + 2) * entries + 2 * few,
+        // A child of seventeen bytes, or without the last of them.
+        Fault::ShortDecimals | Fault::NoUuids => few + 17,
         _ => few,
     }
 }
@@ -72,6 +99,26 @@ fn each_fault_is_told_by_a_small_input() {
         assert!(input.size() <= most(fault), "{fault:?}: {}", input.size());
         assert_eq!(disagreement(&Archive, &input), None, "{fault:?}");
         assert_ne!(found.ours, found.theirs, "{fault:?}");
+        let of_lengths = asked_of_lengths(fault);
+        assert_eq!(found.asked, of_lengths.unwrap_or(&found.asked), "{fault:?}");
+    }
+}
+
+/// What tells wrong lengths, or a wrong answer to a child without one.
+fn asked_of_lengths(fault: Fault) -> Option<&'static str> {
+    use Fault::*;
+    match fault {
+        SpansToNextOffset | NoHeldLength => Some("a field's id, start and span"),
+        ShortDecimals
+        | NoUuids
+        | TakesAnotherType
+        | ListCountsByObjectBit
+        | UntrimmedChildren
+        | ReadsTexts
+        | LastUnmeasured => Some("a listing's answer"),
+        RoomBeforeLengths => Some("a listing in too little room"),
+        WritesUnmeasured => Some("that a listing's refusal leaves the words"),
+        _ => None,
     }
 }
 
@@ -115,6 +162,17 @@ fn numbers_and_fields_of_no_bytes() {
     ] {
         assert_eq!(told(fault).1.asked, asked, "{fault:?}");
     }
+}
+
+/// A reader as it was before 43 is told by the smallest object with a byte that no child has.
+#[test]
+fn bytes_that_no_child_has() {
+    let (input, found) = told(Fault::SpansToNextOffset);
+    assert_eq!(input.object, Some(vec![2, 1, 0, 0, 2, 0, 0]));
+    assert_eq!(
+        (found.ours, found.theirs),
+        ("[0, 5, 2]".into(), "[0, 5, 1]".into())
+    );
 }
 
 /// What a wrong reader finds for an absent name, to the byte.

@@ -1,16 +1,19 @@
-//! The comparison's own parts: enumeration, shrinking, positions, and copies that tell places.
+//! The comparison's own parts: enumeration, shrinking, positions, lengths, and copies that tell
+//! places.
 
 use differential::compare::bad_offsets;
 use differential::encode::{self, DictionaryShape, ObjectShape};
 use differential::exhaustive::each;
+use differential::lengths::{FEW, Told, Values};
 use differential::long_names::beginnings;
 use differential::many::bad_ends;
 use differential::original::{layer_number, traced, traced_start};
 use differential::ours::{Archive, Reader, refused};
 use differential::random::Random;
-use differential::reading::{DictionaryParts, ObjectParts};
-use differential::{Input, LARGE, damage, fixed, generate, hex, large, shrink};
+use differential::reading::{DictionaryParts, ObjectParts, PAYLOADS, Unmeasured, own_length};
+use differential::{Input, LARGE, children, damage, fixed, generate, hex, large, shrink};
 use parquet_variant::{VariantMetadata, VariantObject};
+use std::collections::BTreeSet;
 use std::time::Duration;
 
 #[test]
@@ -229,6 +232,100 @@ fn larger_messages() {
     assert!(!parts.contains(&(false, false)));
     assert_eq!(parts.len(), 3);
     assert!(accepted > 15, "{accepted}");
+}
+
+/// Values of which the Rust tells the length, and how: as they are, or by a copy. Each is followed
+/// by a byte.
+const VALUES: [(&[u8], Told); 14] = [
+    (b"\x00", Told::Accepts),
+    (b"\x0C\xFB", Told::Accepts),
+    (b"\x05\x61", Told::Accepts),
+    (b"\x3C\x01\x00\x00\x00\xFF", Told::Accepts),
+    (b"\x40\x01\x00\x00\x00\x61", Told::Accepts),
+    (fixed::OBJECT, Told::Accepts),
+    (b"\x03\x02\x00\x01\x02\x04\x08", Told::Accepts),
+    // Not UTF-8; a decimal of too large a scale; a date out of the calendar.
+    (b"\x05\xFF", Told::Refuses),
+    (b"\x40\x01\x00\x00\x00\xFF", Told::Refuses),
+    (b"\x20\xFF\x00\x00\x00\x00", Told::Refuses),
+    (b"\x2C\xFF\xFF\xFF\x7F", Told::Refuses),
+    // An id of no entry; an element of no known type, after a first offset that is not 0.
+    (b"\x02\x01\x09\x00\x01\x00", Told::Refuses),
+    (b"\x03\x01\x01\x02\x00\xFC", Told::Refuses),
+    // No elements, and an offset that is not 0.
+    (b"\x03\x00\x01\x00", Told::Nothing),
+];
+
+#[test]
+fn lengths_that_the_rust_tells() {
+    let metadata = &VariantMetadata::try_new(fixed::SORTED).unwrap();
+    for (value, told) in VALUES {
+        let child = [value, &[0x00]].concat();
+        assert_eq!(own_length(&child), Ok(value.len()), "{value:02X?}");
+        for few in [0, FEW] {
+            let values = Values { metadata, few };
+            assert_eq!(values.told(&child, value.len()), told, "{value:02X?}");
+            assert!(told == Told::Nothing || values.takes(&child));
+            assert!(!values.takes(&value[..value.len() - 1]), "{value:02X?}");
+        }
+    }
+}
+
+/// A length that is a byte too long is told, and one too short of each value that the Rust accepts.
+#[test]
+fn lengths_that_the_rust_denies() {
+    let metadata = &VariantMetadata::try_new(fixed::SORTED).unwrap();
+    let values = Values { metadata, few: FEW };
+    for (value, told) in VALUES.iter().filter(|(_, told)| *told != Told::Nothing) {
+        let child = [value, &[0x00][..]].concat();
+        let denied = |length| values.told(&child, length) == Told::Otherwise;
+        assert!(denied(value.len() + 1), "{value:02X?}");
+        if *told == Told::Accepts && value.len() > 1 {
+            assert!(denied(value.len() - 1), "{value:02X?}");
+        }
+    }
+}
+
+#[test]
+fn values_without_a_length() {
+    use Unmeasured::*;
+    for (value, why) in [
+        (&b""[..], Cut),
+        (b"\x54", Unknown),
+        (b"\xFC\x00", Unknown),
+        (b"\x0C", Longer),
+        (b"\x05", Longer),
+        (b"\x3C\x00\x00\x00", Cut),
+        (b"\x3C\x01\x00\x00\x00", Longer),
+        (b"\x3C\xFA\xFF\xFF\xFF", Longer),
+        (b"\x3C\xFB\xFF\xFF\xFF", Sum),
+        (b"\x02\x01\x00\x00", Cut),
+        (b"\x02\x01\x00\x00\x01", Longer),
+        (b"\x7E\xFF\xFF\xFF\x1F", Sum),
+        (b"\x03\x00", Cut),
+        (b"\x03\x00\x01", Longer),
+        (b"\x1F\xFE\xFF\xFF\x3F", Sum),
+    ] {
+        assert_eq!(own_length(value), Err(why), "{value:02X?}");
+    }
+}
+
+/// Every header byte, with every payload that its type can have and one byte less.
+#[test]
+fn children_of_every_header_byte() {
+    let child = |input: Input| input.object.map(|object| object[8..].to_vec());
+    let all: BTreeSet<Vec<u8>> = children::fixed().filter_map(child).collect();
+    for header in 0..=255_u8 {
+        let payload = match header & 3 {
+            0 => PAYLOADS.get(header as usize >> 2).copied().unwrap_or(0),
+            1 => header as usize >> 2,
+            _ => 2,
+        };
+        for length in [payload, 1 + payload, 2 + payload] {
+            let value = [&[header], &vec![0; length.max(1) - 1][..]].concat();
+            assert!(all.contains(&value), "{value:02X?}");
+        }
+    }
 }
 
 #[test]

@@ -3,7 +3,8 @@
 //!
 //! A Variant comes as two buffers: a dictionary of field names and a value. This crate checks a
 //! dictionary and one layer of an object, finds a field by its name, or many by theirs, and lists
-//! the fields. It does not look into the children: a child is handed back as bytes of the object.
+//! the fields. It does not look into the children, but for how long each is where they are listed: a
+//! child is handed back as bytes of the object.
 //!
 //! Each call checks what it is lent from the start, and keeps and copies nothing. Any bytes may
 //! be lent; what is wrong with them is a [`Refusal`] with a number and a place. What a C caller
@@ -27,7 +28,7 @@
 //!
 //! for field in lichenhusk::list(dict, object)? {
 //!     let name = lichenhusk::name(dict, field.id as usize)?;
-//!     println!("{}: {} bytes at {}", String::from_utf8_lossy(name), field.span, field.start);
+//!     println!("{}: {:02X?}", String::from_utf8_lossy(name), field.child);
 //! }
 //! # Ok::<(), lichenhusk::Refusal>(())
 //! ```
@@ -105,13 +106,14 @@ impl Found {
 
 /// A field as a listing has it.
 #[derive(Clone, Copy, Debug, PartialEq, Eq, Hash)]
-pub struct Field {
+pub struct Field<'object> {
     /// The entry of the dictionary that is its name.
     pub id: u32,
     /// Where its child starts in the object.
     pub start: usize,
-    /// The bytes from there to the next larger offset: never 0.
-    pub span: usize,
+    /// The child: the bytes of its own encoding and no others, one at least. What a lookup finds
+    /// begins with the same bytes, and goes on to the end of the object.
+    pub child: &'object [u8],
 }
 
 /// Checks a dictionary.
@@ -317,37 +319,38 @@ pub fn rows_of(words: &[u32]) -> impl Iterator<Item = Option<Found>> {
     rows.iter().copied().map(found_of)
 }
 
-/// Checks a dictionary and one layer of an object, and lists the fields in their order.
+/// Checks a dictionary and one layer of an object, and lists the fields in their order, each with
+/// the bytes of its child's own encoding.
 ///
 /// This asks for the layer first, to know how many fields there are, and so checks twice; with
-/// [`list_into`] and room enough it is done once. Of many thousand fields either is slow: see
-/// there.
+/// [`list_into`] and room enough it is done once.
+///
+/// A child that has no such bytes within the object is refused: one of an unknown primitive type,
+/// or that goes on past the object's end.
 ///
 /// ```
-/// use lichenhusk::Field;
+/// use lichenhusk::{Field, Refusal};
 ///
 /// let dict = b"\x11\x02\x00\x04\x08flowroll";
 /// let object = b"\x02\x02\x00\x01\x01\x00\x03\x04\x0C\xFB";
-/// let flow = Field { id: 0, start: 8, span: 2 };
-/// let roll = Field { id: 1, start: 7, span: 1 };
+/// let flow = Field { id: 0, start: 8, child: &[0x0C, 0xFB] };
+/// let roll = Field { id: 1, start: 7, child: &[0x04] };
 /// assert_eq!(lichenhusk::list(dict, object), Ok(vec![flow, roll]));
+///
+/// let no_such_type = b"\x02\x01\x00\x00\x01\xFC";
+/// let refused = lichenhusk::list(dict, no_such_type);
+/// assert_eq!(refused, Err(Refusal::ChildLength { field: 0 }));
 /// ```
-pub fn list(dict: &[u8], object: &[u8]) -> Result<Vec<Field>, Refusal> {
+pub fn list<'object>(dict: &[u8], object: &'object [u8]) -> Result<Vec<Field<'object>>, Refusal> {
     let fields = layer(dict, object)?.fields;
     let mut words = vec![0; WORDS_PER_FIELD * fields];
     list_into(dict, object, &mut words)?;
-    Ok(fields_of(&words).collect())
+    Ok(fields_of(object, &words).collect())
 }
 
 /// Checks a dictionary and one layer of an object, and writes three words a field into room that
-/// is lent: id, start, span. Words after these stay as they are, and a refusal leaves them all.
-///
-/// For the span of each field all offsets are looked at, so the time grows with the square of the
-/// number of fields: 0.4 seconds were measured for 16,000 fields, 1.9 for 35,040 and 6.6 for 65,536
-/// (Neoverse-V1, offsets of three bytes), which makes minutes for 500,000. A later request, f),
-/// replaces the rule. Of large objects, ask for the fields that are wanted, with [`lookup`] or, for
-/// many names, [`lookup_all`]: the time of these grows with the bytes (65,536 names of as many
-/// fields took 8 milliseconds).
+/// is lent: id, start, span. The span is the length of the child's own encoding. Words after these
+/// stay as they are, and a refusal leaves them all; [`fields_of`] reads them.
 ///
 /// ```
 /// use lichenhusk::Refusal;
@@ -359,7 +362,8 @@ pub fn list(dict: &[u8], object: &[u8]) -> Result<Vec<Field>, Refusal> {
 /// assert_eq!(words, [0, 8, 2, 1, 7, 1, 9]);
 ///
 /// let listed = &words[..lichenhusk::WORDS_PER_FIELD * layer.fields];
-/// assert_eq!(lichenhusk::fields_of(listed).last().unwrap().id, 1);
+/// let roll = lichenhusk::fields_of(object, listed).last().unwrap();
+/// assert_eq!((roll.id, roll.child), (1, &[0x04][..]));
 ///
 /// let little = &mut [9; 5];
 /// assert_eq!(lichenhusk::list_into(dict, object, little), Err(Refusal::WordsTooFew));
@@ -371,13 +375,27 @@ pub fn list_into(dict: &[u8], object: &[u8], words: &mut [u32]) -> Result<Layer,
     Ok(layer_of(strip))
 }
 
-/// The fields of the words that [`list_into`] wrote. A cut last field is left out.
-pub fn fields_of(words: &[u32]) -> impl Iterator<Item = Field> {
-    words.chunks_exact(WORDS_PER_FIELD).map(|field| Field {
-        id: field[0],
-        start: field[1] as usize,
-        span: field[2] as usize,
-    })
+/// The fields of an object, by the words that [`list_into`] wrote for it. A cut last field is left
+/// out.
+///
+/// # Panics
+///
+/// On words that reach out of the object: they are another one's.
+pub fn fields_of<'object>(
+    object: &'object [u8],
+    words: &[u32],
+) -> impl Iterator<Item = Field<'object>> {
+    let (fields, _) = words.as_chunks();
+    fields
+        .iter()
+        .map(|&[id, start, span]: &[u32; WORDS_PER_FIELD]| {
+            let start = start as usize;
+            Field {
+                id,
+                start,
+                child: &object[start..][..span as usize],
+            }
+        })
 }
 
 /// Writes the empty dictionary, the bytes 01 00 00, to the first three bytes of room; bytes

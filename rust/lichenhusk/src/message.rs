@@ -82,11 +82,11 @@ impl<'m> Message<'m> {
     ///
     /// let dict = b"\x11\x02\x00\x04\x08flowroll";
     /// let message = Message::new(dict, b"\x02\x02\x00\x01\x01\x00\x03\x04\x0C\xFB");
-    /// let starts: Vec<usize> = message.list()?.iter().map(|field| field.start).collect();
-    /// assert_eq!(starts, [8, 7]);
+    /// let children: Vec<&[u8]> = message.list()?.iter().map(|field| field.child).collect();
+    /// assert_eq!(children, [&[0x0C, 0xFB][..], &[0x04]]);
     /// # Ok::<(), lichenhusk::Refusal>(())
     /// ```
-    pub fn list(self) -> Result<Vec<Field>, Refusal> {
+    pub fn list(self) -> Result<Vec<Field<'m>>, Refusal> {
         crate::list(self.dict, self.object)
     }
 

@@ -158,8 +158,7 @@ pub fn layer(dict: &[u8], object: &[u8], strip: &mut [u8]) -> u32 {
     }
 }
 
-/// Lists the fields, three words each; the strip is the layer's. The time grows with the square of
-/// the number of fields: see [`list_into`](crate::list_into).
+/// Lists the fields, three words each; the strip is the layer's.
 pub fn list(dict: &[u8], object: &[u8], words: &mut [u32], strip: &mut [u8]) -> u32 {
     // SAFETY: as the head of this module says.
     unsafe {

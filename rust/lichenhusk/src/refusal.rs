@@ -9,7 +9,7 @@ use std::fmt;
 /// Of several reasons to refuse, the one given is the first in the order in which bytes are
 /// checked: the ends of names before the dictionary, the dictionary before the object, a header
 /// before what it describes, and then entry by entry and field by field: 25 and 26 of each field
-/// first, and when all are done, 27 and 28 of each.
+/// first, and when all are done, 27 and 28 of each. Of a listing, 43 comes after these, and 41 last.
 ///
 /// ```
 /// let refusal = lichenhusk::dictionary(&[1, 1, 0, 1, 0xFF]).unwrap_err();
@@ -102,6 +102,12 @@ pub enum Refusal {
     WordsTooFew,
     /// 42: there are fewer than three bytes of room for the empty dictionary.
     RoomTooSmall,
+    /// 43: of a listing, a field's child has no length of its own within the object: it is of an
+    /// unknown primitive type, or its header or its bytes go on past the end of the object.
+    ChildLength {
+        /// The first such field.
+        field: u32,
+    },
     /// 45: of many names, the end of one falls below where it begins or passes the run of names.
     NamesEnd {
         /// The first such name.
@@ -146,6 +152,7 @@ impl Refusal {
             40 => StripTooShort,
             41 => WordsTooFew,
             42 => RoomTooSmall,
+            43 => ChildLength { field: place },
             45 => NamesEnd { name: place },
             _ => return None,
         })
@@ -189,6 +196,7 @@ impl Refusal {
             StripTooShort => 40,
             WordsTooFew => 41,
             RoomTooSmall => 42,
+            ChildLength { .. } => 43,
             NamesEnd { .. } => 45,
         }
     }
@@ -200,6 +208,7 @@ impl Refusal {
             DictionaryEntry { entry } | DictionaryOrder { entry } => entry,
             ObjectId { field } | ObjectOrder { field } => field,
             ObjectOffset { field } | ObjectChildEmpty { field } => field,
+            ChildLength { field } => field,
             NamesEnd { name } => name,
             _ => 0,
         }
@@ -274,6 +283,10 @@ impl fmt::Display for Refusal {
             RoomTooSmall => write!(
                 to,
                 "there are fewer than 3 bytes of room for the empty dictionary"
+            ),
+            ChildLength { field } => write!(
+                to,
+                "the child of the object's field {field} is of an unknown primitive type or goes on past the object's end"
             ),
             NamesEnd { name } => write!(
                 to,

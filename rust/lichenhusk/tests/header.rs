@@ -163,6 +163,38 @@ int main(void)
 }
 "#;
 
+/// The object of the example listed, and then without the last byte of its first child.
+const LIST: &str = r#"
+#include <stdio.h>
+#include "lichenhusk.h"
+
+int main(void)
+{
+    const uint8_t dict[] = {0x11, 2, 0, 4, 8, 'f', 'l', 'o', 'w', 'r', 'o', 'l', 'l'};
+    uint8_t object[] = {0x02, 2, 0, 1, 1, 0, 3, 4, 0x0C, 0xFB};
+    uint32_t words[2 * LICHENHUSK_WORDS_PER_FIELD];
+    uint8_t strip[LICHENHUSK_STRIP_BYTES];
+    size_t k;
+
+    if (lichenhusk_list(dict, sizeof dict, object, sizeof object, words, 6,
+                        strip, sizeof strip) != LICHENHUSK_OK)
+        return 1;
+    for (k = 0; k < 6; k++)
+        printf("%u ", (unsigned) words[k]);
+    object[6] = 2;
+    if (lichenhusk_list(dict, sizeof dict, object, sizeof object, words, 6,
+                        strip, sizeof strip) != LICHENHUSK_CHILD_LENGTH)
+        return 1;
+    printf("then field %u\n", (unsigned) lichenhusk_word(strip, LICHENHUSK_PLACE));
+    return 0;
+}
+"#;
+
+#[test]
+fn a_listing_from_c() {
+    assert_eq!(printed("list", LIST), "0 8 2 1 7 1 then field 0\n");
+}
+
 #[test]
 fn many_names_from_c() {
     assert_eq!(

@@ -254,6 +254,48 @@ fn more_entries_and_fields_than_two_bytes_count() {
     }
 }
 
+/// Each field is listed, with its child of one byte.
+#[test]
+fn a_listing_of_more_fields_than_two_bytes_count() {
+    for width in [3, 4] {
+        let (dict, object) = of_many(width);
+        let region = object.len() - MANY;
+        let fields = lichenhusk::list(&dict, &object).unwrap();
+        assert_eq!(fields.len(), MANY);
+        for (number, field) in fields.into_iter().enumerate() {
+            assert_eq!((field.id, field.start), (number as u32, region + number));
+            assert_eq!(field.child, [0]);
+        }
+    }
+}
+
+/// A binary that ends with the longest object, and one that would end a byte after it.
+#[test]
+fn a_child_as_long_as_the_limit_leaves() {
+    let head = [0x0A, 1, 0];
+    let start = head.len() + 2 * 3;
+    let region = LIMIT - start;
+    let of_length = |length: usize| {
+        let mut object = head.to_vec();
+        put(&mut object, 3, [0, region]);
+        object.push(15 << 2);
+        put(&mut object, 4, [length]);
+        object.resize(LIMIT, 0xFF);
+        object
+    };
+    let object = of_length(region - 5);
+    let fields = lichenhusk::list(&hex(D), &object).unwrap();
+    assert_eq!(
+        (fields[0].child.as_ptr(), fields[0].child.len()),
+        (object[start..].as_ptr(), region)
+    );
+    let longer = of_length(region - 4);
+    assert_eq!(
+        lichenhusk::list(&hex(D), &longer),
+        Err(Refusal::ChildLength { field: 0 })
+    );
+}
+
 /// Refusals at an entry and at fields whose number takes more than two bytes.
 #[test]
 fn places_of_more_than_two_bytes() {
@@ -285,4 +327,10 @@ fn places_of_more_than_two_bytes() {
         Err(Refusal::ObjectChildEmpty { field })
     );
     assert!(with(offsets, MANY - 1).is_ok());
+    let mut unknown = object.clone();
+    *unknown.last_mut().expect("children") = 0xFC;
+    assert_eq!(
+        lichenhusk::list(&dict, &unknown),
+        Err(Refusal::ChildLength { field })
+    );
 }

@@ -11,6 +11,9 @@ const BEFORE: u8 = 0xEE;
 /// An object over D whose second child has no bytes.
 const CHILD_EMPTY: &str = "02 02 00 01 00 01 01 00";
 
+/// An object over D whose second child is of no known type.
+const CHILD_UNKNOWN: &str = "02 02 00 01 00 01 02 00 FC";
+
 /// A call that fills a strip, and its name for messages.
 type Call = (&'static str, fn(&mut [u8]) -> u32);
 
@@ -145,6 +148,10 @@ fn every_word_of_absence_and_of_a_placed_refusal() {
         [41, 0, 0, 0, 0, 0]
     );
     assert_eq!(
+        words_of(|strip| raw::list(&hex(D), &hex(CHILD_UNKNOWN), &mut [0; 6], strip)),
+        [43, 0, 0, 0, 0, 1]
+    );
+    assert_eq!(
         words_of(|strip| raw::lookup_all(&hex(D), &hex(P), b"a", &[1], &mut [0; 4], strip)),
         [41, 0, 0, 0, 0, 0]
     );
@@ -172,6 +179,25 @@ fn words_after_the_rows_stay() {
         0
     );
     assert_eq!(words, [1, 0, 0, 0, 0, 0, 1, 1, 7, 10, 7, 7, 7]);
+}
+
+/// Every kind of refusal: of the dictionary, the object, a child and the room.
+#[test]
+fn a_refusal_leaves_the_words_of_a_listing() {
+    let refused = |number, dict: &[u8], object: &[u8], room| {
+        let mut words = vec![7; room];
+        let code = raw::list(dict, object, &mut words, &mut [0; STRIP_BYTES]);
+        assert_eq!(code, number);
+        assert_eq!(words, vec![7; room], "{number}");
+    };
+    let (dict, object) = (hex(D), hex(P));
+    refused(12, &[2], &object, 6);
+    refused(22, &dict, &[0], 6);
+    refused(28, &dict, &hex(CHILD_EMPTY), 6);
+    for room in [0, 3, 5, 6, 9] {
+        refused(43, &dict, &hex(CHILD_UNKNOWN), room);
+    }
+    refused(41, &dict, &object, 5);
 }
 
 /// Every kind of refusal: of the ends, the dictionary, the object and the room.

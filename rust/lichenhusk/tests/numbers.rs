@@ -153,6 +153,20 @@ fn no_such_entry() {
     assert_eq!(lichenhusk::name(&[1, 0, 0], 0), Err(Refusal::NoSuchEntry));
 }
 
+/// Of the listing alone: the other calls do not look into the children.
+#[test]
+fn no_length_of_a_child() {
+    let (dict, object) = (hex(D), hex("02 02 00 01 00 01 02 00 FC"));
+    let refused = Refusal::ChildLength { field: 1 };
+    assert_eq!((refused.number(), refused.place()), (43, 1));
+    assert_eq!(lichenhusk::list(&dict, &object), Err(refused));
+    let mut words = [7; 8];
+    let answer = lichenhusk::list_into(&dict, &object, &mut words);
+    assert_eq!(answer, Err(refused));
+    assert_eq!(words, [7; 8]);
+    assert!(lichenhusk::layer(&dict, &object).is_ok());
+}
+
 #[test]
 fn too_few_words() {
     let (dict, object) = (hex(D), hex(P));
@@ -195,14 +209,14 @@ fn numbers_and_cases_match() {
     let all: Vec<u32> = (10..=19)
         .chain(20..=28)
         .chain([31])
-        .chain(40..=42)
+        .chain(40..=43)
         .chain([45])
         .collect();
     assert_eq!(numbers, all);
     for number in all {
         let refusal = Refusal::of(number, 5).unwrap();
         assert_eq!(refusal.number(), number);
-        let has_place = matches!(number, 16..=19 | 25..=28 | 45);
+        let has_place = matches!(number, 16..=19 | 25..=28 | 43 | 45);
         assert_eq!(refusal.place(), if has_place { 5 } else { 0 });
         assert_eq!(
             Refusal::of(refusal.number(), refusal.place()),
@@ -228,7 +242,7 @@ fn each_says_what_it_is() {
         }
         assert!(seen.insert(words.to_string()), "{text}");
     }
-    assert_eq!(seen.len(), 24);
+    assert_eq!(seen.len(), 25);
     for refusal in [Refusal::DictionaryTooLong, Refusal::ObjectTooLong] {
         let text = refusal.to_string();
         assert!(text.ends_with("is longer than 16777216 bytes"), "{text}");

@@ -117,10 +117,10 @@ fn the_listing_of_p() {
     let mut words = [0; 6];
     lichenhusk::list_into(&hex(D), &hex(P), &mut words).unwrap();
     assert_eq!(words, [0, 8, 2, 1, 7, 1]);
-    let field = |id, start, span| Field { id, start, span };
+    let field = |id, start, child| Field { id, start, child };
     assert_eq!(
         lichenhusk::list(&hex(D), &hex(P)),
-        Ok(vec![field(0, 8, 2), field(1, 7, 1)])
+        Ok(vec![field(0, 8, &[0x0C, 0xFB]), field(1, 7, &[0x04])])
     );
 }
 

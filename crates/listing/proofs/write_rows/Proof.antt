@@ -1,10 +1,12 @@
 -- `listing::write_rows` meets its contract: the loop keeps the rows before k, and after them the words as they were. Assumes nothing.
-use Rattle.rules.proofs.Prelude.{_≡_, refl, _++_, _+_, _-_, _*_, _≤_, arith, length, drop, length-set}
+use Rattle.rules.proofs.Prelude.{_≡_, _∙_, ap, refl, List, ℕ, _++_, _+_, _-_, _*_, _≤_, arith, length, drop, length-set}
 use Rattle.rules.proofs.Rows.{rows-none}
 use Rattle.metadata.specs.Limits.{u32Max}
+use Rattle.value.specs.Encoding.{bytesOf}
+use Rattle.object.specs.declared.Layer.{Layer}
 use Rattle.object.specs.Object.{count as countOf}
-use Rattle.object.proofs.Laws.{end-is}
 use Rattle.listing.specs.Words.{span, rows}
+use Rattle.listing.proofs.Laws.{span-inside}
 use Rattle.listing.proofs.Rows.{turn}
 use Rattle.listing.proofs.write_rows.Statement.{statement}
 use Rattle.listing.proofs.write_rows.Tie as tie
@@ -15,33 +17,49 @@ Inv-loop object l words₀ fields at₀ k₀ words at k = (words ≡ rows object
 abbrev μ-loop : tie.MeasureT-loop
 μ-loop object l words₀ fields at₀ k₀ words at k = fields - k
 
--- a child that starts in the region ends before the trimmed end
-inside : (c : tie.After-id-at Inv-loop μ-loop) → let l = c .before .before .before .before .before .before .args .l in l .start + c .before .offset-at .result ≤ l .end
-inside c =
-    let s = c .before .before .before .before .before .before in
-    omega (arith, s .pre .1 (c .before .before .before .loop .k) (omega arith), end-is (s .args .object .now))
+module _ (c : tie.After-id-at Inv-loop μ-loop) where
+  abbrev object : List ℕ
+  object = c .before .before .before .before .before .before .before .before .args .object .now
+
+  abbrev layer : Layer
+  layer = c .before .before .before .before .before .before .before .before .args .l
+
+  abbrev field : ℕ
+  field = c .before .before .before .before .before .loop .k
+
+  -- the span is the child's own length
+  span-is : c .before .bytes-of .result ≡ span object field
+  unfolding span
+  span-is = c .before .bytes-of .ensures ∙ ap bytesOf (c .before .before .own-length .ensures)
+
+  -- a child and its span end before the trimmed end
+  inside : layer .start + c .before .before .before .offset-at .result + c .before .bytes-of .result ≤ layer .end
+  inside = let s = c .before .before .before .before .before .before .before .before in omega (arith, span-inside object field (s .pre .1 field (omega arith)) (omega arith), span-is)
 
 pub write-rows-spec : {M : Type 1} → statement M
-unfolding u32Max span
+unfolding u32Max
 write-rows-spec =
     tie.close
     (tie.spec
     Inv-loop
     μ-loop
     (λ c. (rows-none _ _, omega arith, omega arith, refl))  -- loop-holds
-    (λ c κs. omega arith) (λ c κs. omega arith) (λ c. omega arith) (λ c. omega arith) (λ c. omega arith)
+    (λ c κs. omega arith)  -- offset-at-requires
+    (λ c κs. let s = c .before .before .before .before .before in (s .pre .0, omega arith, s .pre .1 _ (omega arith)))  -- own-length-requires
+    (λ c κs. tt)  -- bytes-of-requires
+    (λ c κs. omega arith)  -- id-at-requires
+    (λ c. omega arith) (λ c. omega arith) (λ c. omega arith)
     (λ c. omega (arith, inside (c .before)))  -- add-words
     (λ c. omega (arith, inside (c .before)))  -- cast-words-2
     (λ c. omega arith) (λ c. omega arith)
     (λ c. simp length-set (omega arith))  -- slice-write-words-2
-    (λ c κs. omega arith) (λ c. omega arith) (λ c. omega arith) (λ c. omega arith)
+    (λ c. omega (arith, inside (c .before)))  -- cast-words-3
+    (λ c. omega arith) (λ c. omega arith)
     (λ c. simp length-set (omega arith))  -- slice-write-words-3
     (λ c. omega arith) (λ c. omega arith) (λ c. omega arith)
-    (λ c. let l = c .before .before .before .before .before .loop in
-    let s = c .before .before .before .before .before .before .before .before in
-    let offset-is = c .before .before .before .offset-at .ensures .0 in
-    let span-is = rw (offset-is) at (c .span-above .ensures .0) in (
-      turn (s .args .object .now) _ (l .words) (l .k) (l .at) (l .inv .0) (l .inv .1) (c .before .before .id-at .ensures .0) (omega arith) span-is (omega arith),
+    (λ c. let l = c .before .before .before .before .before .before .loop in
+    let s = c .before .before .before .before .before .before .before .before .before in (
+      turn (s .args .object .now) _ (l .words) (l .k) (l .at) (l .inv .0) (l .inv .1) (c .before .id-at .ensures .0) (omega arith) (span-is (c .before)) (omega arith),
       omega arith,
       omega arith,
       simp length-set (l .inv .3),

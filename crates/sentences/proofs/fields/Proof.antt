@@ -6,10 +6,10 @@ use Rattle.sentences.proofs.fields.Statement.{statement}
 use Rattle.sentences.proofs.fields.Tie as tie
 
 abbrev Inv-loop : tie.InvT-loop
-Inv-loop dict words h at₀ at = at ≤ length words
+Inv-loop dict object words h at₀ at = at ≤ length words
 
 abbrev μ-loop : tie.MeasureT-loop
-μ-loop dict words h at₀ at = length words - at
+μ-loop dict object words h at₀ at = length words - at
 
 pub fields-spec : {M : Type 1} → statement M
 fields-spec =
