@@ -5,15 +5,12 @@ ghost use Prim.Native.Nat.{_≤_};
 ghost use lib.ListN.{length};
 ghost use Rattle.lookup.specs.Many.{rowsAfter};
 ghost use Rattle.listing.specs.Words.{wordsAfter};
-ghost use Rattle.words.specs.Shapes.{stripBytes};
+ghost use Rattle.strip.specs.Shapes.{stripBytes};
 ghost use Rattle.lichenhusk.specs.Strip.{lookupWords, allWords, layerWords, listWords, verdictWords, nameAtWords};
 ghost use Rattle.lichenhusk.specs.Host.{wordsIn};
 ghost use Rattle.ask.specs.Numbers.{numbersOf};
-
-pub mod room;
-
-use libc::STDOUT_FILENO;
 use lichenhusk::STRIP;
+use print::say;
 
 // The six numbers of a strip.
 pub struct Answer {
@@ -96,12 +93,6 @@ pub fn list(dict: &[u8], object: &[u8], words: &mut [u32]) -> Answer
     read(&strip)
 }
 
-// A number after some words, to standard output.
-pub fn say(words: &[u8], n: usize) {
-    io::write_all(STDOUT_FILENO, words);
-    io::print_decimal(STDOUT_FILENO, n as u64);
-}
-
 // The six numbers, a space between two.
 pub fn write(a: Answer) {
     say(b"", a.code);
@@ -110,26 +101,4 @@ pub fn write(a: Answer) {
     say(b" ", a.start);
     say(b" ", a.end);
     say(b" ", a.place);
-}
-
-// The bytes of `s` in hex, a space before each.
-pub fn write_hex(s: &[u8]) {
-    for i in 0..s.len() {
-        io::write_all(STDOUT_FILENO, b" ");
-        io::print_hex(STDOUT_FILENO, width::wide(s[i]) as u64, 2);
-    }
-}
-
-// A word of a listing as a number.
-pub fn wide(x: u32) -> usize
-    ensures { λ r. ⌜ r ≡ x ⌝ }
-{
-    x as usize
-}
-
-// The words of `s`, a space before each.
-pub fn write_words(s: &[u32]) {
-    for i in 0..s.len() {
-        say(b" ", wide(s[i]));
-    }
 }

@@ -1,6 +1,7 @@
 // Whether an answer is the one that a text has, written as `write` writes it.
 use crate::Outcome;
 use ask::Answer;
+use print::wide;
 use text::Numeral;
 use text::number;
 use text::word;
@@ -69,7 +70,7 @@ fn answered(text: &[u8], a: Answer) -> bool {
 fn has_words(text: &[u8], from: usize, words: &[u32]) -> bool {
     let mut at = from;
     for i in 0..words.len() {
-        let seen = see(text, at, ask::wide(words[i]));
+        let seen = see(text, at, wide(words[i]));
         if !seen.same {
             return false;
         }

@@ -7,14 +7,15 @@
 ghost use Prim.Native.Nat.{_≤_};
 ghost use lib.ListN.{length};
 use ask::Answer;
-use ask::room::use_library;
+use print::room::use_library;
+use print::tell;
+use print::write_words;
 use text::Numeral;
 use text::hex;
 use text::number;
 use text::word;
 
 pub mod expected;
-pub mod tally;
 
 pub enum Outcome {
     Answered(Answer),
@@ -38,23 +39,20 @@ const MANY_ENDS: usize = 9;
 // `room` is how many bytes a word may spell.
 fn reason(n: usize, room: usize) -> bool {
     match n {
-        1 => io::write_all(1, b"an odd number of hex digits"),
-        2 => io::write_all(1, b"a character that is no hex digit"),
+        1 => tell(b"an odd number of hex digits"),
+        2 => tell(b"a character that is no hex digit"),
         3 => word_too_long(room),
-        4 => io::write_all(
-            1,
-            b"the first word is none of dictionary, name, layer, lookup, list, all",
-        ),
-        5 => io::write_all(1, b"a word is missing"),
-        6 => io::write_all(1, b"a word too many"),
-        7 => io::write_all(1, b"no number below 4294967296"),
-        8 => io::write_all(1, b"more room than there is"),
-        _ => io::write_all(1, b"more ends than there is room for"),
+        4 => tell(b"the first word is none of dictionary, name, layer, lookup, list, all"),
+        5 => tell(b"a word is missing"),
+        6 => tell(b"a word too many"),
+        7 => tell(b"no number below 4294967296"),
+        8 => tell(b"more room than there is"),
+        _ => tell(b"more ends than there is room for"),
     }
 }
 
 fn word_too_long(room: usize) -> bool {
-    io::write_all(1, b"a word is");
+    tell(b"a word is");
     use_library(room, b" bytes")
 }
 
@@ -400,11 +398,11 @@ pub fn write(outcome: Outcome, words: &[u32], room: usize) {
         }
         Outcome::Listed { answer, filled } => {
             ask::write(answer);
-            io::write_all(1, b" :");
-            ask::write_words(first(words, filled));
+            tell(b" :");
+            write_words(first(words, filled));
         }
         Outcome::NoCase(n) => {
-            io::write_all(1, b"? ");
+            tell(b"? ");
             reason(n, room);
         }
     }

@@ -5,13 +5,13 @@ ghost use lib.ListN.{length};
 
 mod batch;
 
-use ask::room::ROOM;
-use ask::room::longer_than;
-use ask::room::use_library;
-use ask::say;
-use sentences::files;
-use sentences::files::LENT;
-use sentences::tell;
+use files::LENT;
+use print::room::ROOM;
+use print::room::longer_than;
+use print::room::use_library;
+use print::say;
+use print::tell;
+use print::write_hex;
 use text::Numeral;
 
 // Document 01's D and P: what they hold, and three names looked up.
@@ -19,11 +19,11 @@ fn show() {
     let d = b"\x11\x02\x00\x04\x08flowroll";
     let p = b"\x02\x02\x00\x01\x01\x00\x03\x04\x0C\xFB";
     tell(b"the dictionary");
-    ask::write_hex(d);
+    write_hex(d);
     tell(b"\n");
     sentences::check_dictionary(d);
     tell(b"the object");
-    ask::write_hex(p);
+    write_hex(p);
     tell(b"\n");
     sentences::list(d, p);
     show_found(d, p, b"flow");

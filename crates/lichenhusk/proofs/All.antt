@@ -9,7 +9,7 @@ use Rattle.lookup.specs.Many.{row, lookups, rowsAfter}
 use Rattle.lookup.proofs.Rows.{row-five}
 use Rattle.lookup.proofs.ManyMeans as many
 use Rattle.lookup.proofs.AllRows as rows
-use Rattle.words.specs.Shapes.{wordsOf, layerShape, stripBytes}
+use Rattle.strip.specs.Shapes.{wordsOf, layerShape, stripBytes}
 use Rattle.lichenhusk.specs.Strip.{allWords, filledAfter}
 use Rattle.lichenhusk.specs.Promises.{AllPromise}
 use Rattle.lichenhusk.specs.Host.{wordsIn, Tells, AllSays, FillsAll}

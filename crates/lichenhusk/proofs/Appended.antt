@@ -10,7 +10,7 @@ use Rattle.lookup.specs.Many.{lookups}
 use Rattle.lookup.proofs.ManyAppended.{lookups-appended, rows-appended, run-appended, rows-run-appended}
 use Rattle.listing.specs.Words.{listed}
 use Rattle.listing.proofs.Appended.{listed-appended, words-appended}
-use Rattle.words.specs.Shapes.{Shape, wordsOf, lookupShape, layerShape, dictionaryShape, nameShape, stripBytes}
+use Rattle.strip.specs.Shapes.{Shape, wordsOf, lookupShape, layerShape, dictionaryShape, nameShape, stripBytes}
 use Rattle.lichenhusk.specs.Strip.{returned, stripAfter, filledAfter}
 use Rattle.lichenhusk.specs.Promises.{Left, Filled, DictionaryPromise, NamePromise, LayerPromise, LookupPromise, ListPromise, AllPromise}
 use Rattle.lichenhusk.proofs.Carries.{first-is}

@@ -4,7 +4,7 @@ use Rattle.rules.proofs.Prelude.{_≡_, refl, sym, ap, _∙_, List, [], _∷_, 
 use Rattle.rules.proofs.Prelude.{drop, getD, drop-append-add, Answer, codeOf, gives}
 use Rattle.width.specs.Width.{bytesOf}
 use Rattle.width.proofs.Laws.{bytes-length, le-bytes}
-use Rattle.words.specs.Shapes.{Shape, wordsOf, bytesOfWords, stripBytes}
+use Rattle.strip.specs.Shapes.{Shape, wordsOf, bytesOfWords, stripBytes}
 use Rattle.lichenhusk.specs.Strip.{returned, stripAfter}
 use Rattle.lichenhusk.specs.Promises.{Left}
 use Rattle.lichenhusk.specs.Host.{word, wordsIn, Tells}

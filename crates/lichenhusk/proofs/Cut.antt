@@ -10,7 +10,7 @@ use Rattle.object.proofs.Cut as object-cuts
 use Rattle.lookup.proofs.Cut as lookup-cuts
 use Rattle.lookup.proofs.ManyCut as many-cuts
 use Rattle.listing.proofs.Cut as listing-cuts
-use Rattle.words.specs.Shapes.{Shape, wordsOf, lookupShape, layerShape, dictionaryShape, nameShape, refusalWords, stripBytes}
+use Rattle.strip.specs.Shapes.{Shape, wordsOf, lookupShape, layerShape, dictionaryShape, nameShape, refusalWords, stripBytes}
 use Rattle.lichenhusk.specs.Strip.{filledAfter}
 use Rattle.lichenhusk.specs.Promises.{Left, DictionaryPromise, NamePromise, LayerPromise, LookupPromise, ListPromise, AllPromise}
 

@@ -12,7 +12,7 @@ use Rattle.lookup.specs.ByName.{lookup as lookup-of}
 use Rattle.lookup.proofs.Found as lookup
 use Rattle.listing.specs.Words.{listed as list-of}
 use Rattle.listing.proofs.Lists as listing
-use Rattle.words.specs.Shapes.{Shape, wordsOf, lookupShape, layerShape, dictionaryShape, nameShape, stripBytes}
+use Rattle.strip.specs.Shapes.{Shape, wordsOf, lookupShape, layerShape, dictionaryShape, nameShape, stripBytes}
 use Rattle.lichenhusk.specs.Promises.{Left, DictionaryPromise, NamePromise, LayerPromise, LookupPromise, ListPromise}
 use Rattle.lichenhusk.specs.Host.{wordsIn, DictionarySays, NameSays, LayerSays, LookupSays, ListSays}
 use Rattle.lichenhusk.specs.Host.DictionarySays.{accepted, refused as dictionary-refused}

@@ -1,8 +1,8 @@
 -- What a call leaves: with 40 the strip as it was, otherwise the six words. Assumes nothing.
 use Rattle.rules.proofs.Prelude.{_≡_, List, ℕ, _≤_, _<_, lt-ltb, le-ltb, length}
-use Rattle.words.specs.declared.Words.{Words}
-use Rattle.words.specs.Shapes.{stripBytes}
-use Rattle.words.specs.Steps.{listOf, Wrote}
+use Rattle.strip.specs.declared.Words.{Words}
+use Rattle.strip.specs.Shapes.{stripBytes}
+use Rattle.strip.specs.Steps.{listOf, Wrote}
 use Rattle.lichenhusk.specs.Strip.{returned, stripAfter}
 use Rattle.lichenhusk.specs.Promises.{Left}
 

@@ -12,7 +12,7 @@ use Rattle.lookup.specs.Many.{lookupsWithin, rowsAfterWithin}
 use Rattle.lookup.proofs.Raised.{lookup-alike, lookups-alike, rows-alike}
 use Rattle.listing.specs.Words.{listedWithin, wordsAfterWithin}
 use Rattle.listing.proofs.Raised.{listed-alike, words-alike}
-use Rattle.words.specs.Shapes.{wordsOf, lookupShape, layerShape, dictionaryShape, nameShape}
+use Rattle.strip.specs.Shapes.{wordsOf, lookupShape, layerShape, dictionaryShape, nameShape}
 use Rattle.lichenhusk.specs.Promises.{Left, Filled, LookupPromise}
 use Rattle.lichenhusk.proofs.Pinned.{strip-pinned, filled-pinned}
 

@@ -27,7 +27,7 @@ use Rattle.listing.proofs.Rows.{rows-length}
 use Rattle.listing.specs.Meaning.{Listed}
 use Rattle.listing.proofs.Listed.{id-word, start-word, span-word, own-length, span-some, span-ends}
 use Rattle.listing.proofs.Lists as listing
-use Rattle.words.specs.Shapes.{wordsOf, lookupShape, layerShape, dictionaryShape, nameShape, stripBytes}
+use Rattle.strip.specs.Shapes.{wordsOf, lookupShape, layerShape, dictionaryShape, nameShape, stripBytes}
 use Rattle.lichenhusk.specs.Strip.{lookupWords, layerWords, listWords, verdictWords, nameAtWords, filledAfter}
 use Rattle.lichenhusk.specs.Promises.{DictionaryPromise, NamePromise, LayerPromise, LookupPromise, ListPromise, EmptyPromise}
 use Rattle.lichenhusk.specs.Host.{word, Tells, DictionarySays, NameSays, LayerSays, LookupSays, Spelled, ListSays, Fills, EmptyTells}

@@ -15,7 +15,7 @@ use Rattle.run.specs.Run as run
 use Rattle.lookup.specs.ByName as by-name
 use Rattle.lookup.specs.Many as many
 use Rattle.listing.specs.Words as listing
-use Rattle.words.specs.Shapes.{bytesOfWords}
+use Rattle.strip.specs.Shapes.{bytesOfWords}
 use Rattle.lichenhusk.specs.Strip.{stripAfter}
 use Rattle.lichenhusk.specs.Worked.{Asked, Told, tell, starred}
 

@@ -18,7 +18,7 @@ use Rattle.lookup.specs.Meaning as many
 use Rattle.lookup.specs.Meaning.{Found, Absent, Answered, RefusedAfter, rowAt}
 use Rattle.listing.specs.Words.{rows}
 use Rattle.listing.specs.Meaning.{Listed, NoLength, NoRoom}
-use Rattle.words.specs.Shapes.{refusalWords, stripBytes}
+use Rattle.strip.specs.Shapes.{refusalWords, stripBytes}
 
 -- WHAT CODE, NUMBER, ID, START, END AND PLACE SAY, call by call
 

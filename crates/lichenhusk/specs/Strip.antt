@@ -10,7 +10,7 @@ use Rattle.object.specs.Object as object
 use Rattle.lookup.specs.ByName as by-name
 use Rattle.lookup.specs.Many as many
 use Rattle.listing.specs.Words as listing
-use Rattle.words.specs.Shapes.{wordsOf, lookupShape, layerShape, dictionaryShape, nameShape, bytesOfWords, stripBytes}
+use Rattle.strip.specs.Shapes.{wordsOf, lookupShape, layerShape, dictionaryShape, nameShape, bytesOfWords, stripBytes}
 
 -- THE WORDS OF EACH CALL
 

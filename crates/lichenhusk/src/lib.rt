@@ -18,7 +18,7 @@ pub extern "C" fn lichenhusk_lookup(
         return 40;
     }
     let words = words::of_lookup(lookup::get(dict, object, name));
-    words::write(strip, words)
+    strip::write(strip, words)
 }
 
 // Lookup of many names at one check: as the layer, and five words a name.
@@ -37,7 +37,7 @@ pub extern "C" fn lichenhusk_lookup_all(
         return 40;
     }
     let six = words::of_lookups(lookup::get_all(dict, object, names, ends, words));
-    words::write(strip, six)
+    strip::write(strip, six)
 }
 
 // Dictionary verdict: entry count, 0, 0, trimmed end.
@@ -49,7 +49,7 @@ pub extern "C" fn lichenhusk_dictionary(dict: &[u8], strip: &mut [u8]) -> u32
         return 40;
     }
     let words = words::of_verdict(metadata::check(dict));
-    words::write(strip, words)
+    strip::write(strip, words)
 }
 
 // Name by entry number: 0, 0, start, end.
@@ -61,7 +61,7 @@ pub extern "C" fn lichenhusk_name(dict: &[u8], entry: usize, strip: &mut [u8]) -
         return 40;
     }
     let words = words::of_entry(metadata::get(dict, entry));
-    words::write(strip, words)
+    strip::write(strip, words)
 }
 
 // Layer verdict: field count, 0, region start, trimmed end.
@@ -73,7 +73,7 @@ pub extern "C" fn lichenhusk_layer(dict: &[u8], object: &[u8], strip: &mut [u8])
         return 40;
     }
     let words = words::of_layer(object::check(dict, object));
-    words::write(strip, words)
+    strip::write(strip, words)
 }
 
 // Listing: as the layer, and the words filled.
@@ -90,7 +90,7 @@ pub extern "C" fn lichenhusk_list(
         return 40;
     }
     let six = words::of_listing(listing::list(dict, object, words));
-    words::write(strip, six)
+    strip::write(strip, six)
 }
 
 // The empty dictionary: 0, or 42 below three bytes of room.

@@ -5,8 +5,8 @@ use libc::STDOUT_FILENO;
 mod told;
 
 use cases::Outcome;
-use cases::tally::Tally;
-use cases::tally::with;
+use tally::Tally;
+use tally::with;
 use text::find;
 
 fn agrees(question: &[u8], words: &[u8]) -> bool {
@@ -54,7 +54,7 @@ fn judge(t: Tally, line: &[u8]) -> Tally {
 }
 
 fn run(text: &[u8]) -> Tally {
-    let mut t = cases::tally::none();
+    let mut t = tally::none();
     let mut at: usize = 0;
     while at < text.len() {
         let end = find(text, at, b'\n');
@@ -69,9 +69,9 @@ fn run(text: &[u8]) -> Tally {
 
 fn main() {
     let mut text = [0u8; 262144];
-    let n = cases::tally::load(b"answers", &mut text);
+    let n = tally::load(b"answers", &mut text);
     let t = run(&text[0..n]);
-    ask::say(b"", t.cases);
-    ask::say(b" answers of the Rust's, ", t.wrong);
+    print::say(b"", t.cases);
+    print::say(b" answers of the Rust's, ", t.wrong);
     io::write_all(STDOUT_FILENO, b" differ from ours\n");
 }

@@ -2,40 +2,13 @@
 ghost use Prim.Native.Nat.{_+_, _≤_};
 ghost use lib.ListN.{length};
 ghost use Rattle.object.specs.Steps.{Over};
-
-pub mod files;
-pub mod kinds;
-
 use ask::Answer;
-use ask::room::ROOM;
-use ask::say;
-use ask::wide;
-use libc::STDOUT_FILENO;
-
-pub fn tell(words: &[u8]) -> bool {
-    io::write_all(STDOUT_FILENO, words)
-}
-
-// A byte of a name. What would end the quotes or reach a terminal as a control is written `\xNN`.
-fn letter(b: u8) {
-    match b {
-        0..=31 | b'"' | b'\\' | 127 => {
-            tell(b"\\x");
-            io::print_hex(STDOUT_FILENO, width::wide(b) as u64, 2);
-        }
-        _ => {
-            tell(&[b]);
-        }
-    }
-}
-
-pub fn quoted(name: &[u8]) {
-    tell(b"\"");
-    for i in 0..name.len() {
-        letter(name[i]);
-    }
-    tell(b"\"");
-}
+use print::quoted;
+use print::room::ROOM;
+use print::say;
+use print::tell;
+use print::wide;
+use print::write_hex;
 
 // That one of the two is longer than any that the library reads.
 fn above_limit(what: &[u8]) -> bool {
@@ -174,10 +147,10 @@ pub fn name(dict: &[u8], entry: usize) {
 // The first bytes of a value.
 fn start_of(value: &[u8]) {
     if value.len() <= 16 {
-        ask::write_hex(value);
+        write_hex(value);
         return;
     }
-    ask::write_hex(&value[0..16]);
+    write_hex(&value[0..16]);
     tell(b" ..");
 }
 
@@ -266,7 +239,7 @@ fn child(bytes: &[u8]) {
     tell(b", ");
     kinds::kind(bytes[0]);
     tell(b":");
-    ask::write_hex(bytes);
+    write_hex(bytes);
 }
 
 // A field of a listing over a dictionary that was checked: nothing is checked again.

@@ -28,27 +28,27 @@ pub enum Length {
 
 // Bytes after the header byte, by primitive type. Types 15 and 16, whose four bytes are a length, have as many more.
 const PAYLOADS: [u8; 21] = [
-    0,
-    0,
-    0,
-    1,
-    2,
-    4,
-    8,
-    8,
-    5,
-    9,
-    17,
-    4,
-    8,
-    8,
-    4,
-    4,
-    4,
-    8,
-    8,
-    8,
-    16,
+    0, // null
+    0, // true
+    0, // false
+    1, // int8
+    2, // int16
+    4, // int32
+    8, // int64
+    8, // double
+    5, // decimal4
+    9, // decimal8
+    17, // decimal16
+    4, // date
+    8, // timestamp
+    8, // timestamp without time zone
+    4, // float
+    4, // binary: its length
+    4, // string: its length
+    8, // time
+    8, // timestamp in nanoseconds
+    8, // the same without time zone
+    16, // uuid
 ];
 
 // How many bytes a count has, by the bit that says so.

@@ -2,8 +2,8 @@
 -- Assumes nothing.
 use Rattle.rules.proofs.Prelude.{_≡_, refl, sym, _∙_, List, ℕ, getD}
 use Rattle.metadata.proofs.Pinned.{by-back}
-use Rattle.words.specs.declared.Words.{Words}
-use Rattle.words.specs.Steps.{listOf, Wrote}
+use Rattle.strip.specs.declared.Words.{Words}
+use Rattle.strip.specs.Steps.{listOf, Wrote}
 
 abbrev wordsBack : List ℕ → Words
 wordsBack l = record { code = getD l 0 0; number = getD l 1 0; id = getD l 2 0; start = getD l 3 0; end = getD l 4 0; place = getD l 5 0 }

@@ -1,50 +1,14 @@
-// An answer as the six words of a strip, and their one writer (include/lichenhusk.h has what each word is for each call).
+// Each call's answer as the six words of a strip.
 ghost use mathlib.Core.Path.{_≡_};
-ghost use mathlib.Core.List.{[], _∷_};
-ghost use Prim.Native.Nat.{_≤_};
-ghost use lib.ListN.{length};
 ghost use Rattle.metadata.specs.Answers.{refusalNumber as dictionaryNumber, refusalPlace as dictionaryPlace, verdictNumbers, entryNumbers};
 ghost use Rattle.object.specs.Answers.{refusalNumber as objectNumber, refusalPlace as objectPlace, verdictNumbers as layerNumbers};
 ghost use Rattle.lookup.specs.Answers.{lookupNumbers, lookupsNumbers};
 ghost use Rattle.listing.specs.Answers.{listingNumbers};
-ghost use Rattle.words.specs.Shapes.{wordsOf, lookupShape, layerShape, dictionaryShape, nameShape, refusalWords, stripBytes};
-ghost use Rattle.words.specs.Steps.{listOf, Wrote};
-
-// The six numbers of a strip.
-pub struct Words {
-    pub code: u32,
-    pub number: usize,
-    pub id: usize,
-    pub start: usize,
-    pub end: usize,
-    pub place: usize,
-}
-
-fn refusal(code: u32, place: usize) -> Words
-    ensures { λ r. ⌜ listOf r ≡ refusalWords code place ⌝ }
-{
-    Words {
-        code,
-        number: 0,
-        id: 0,
-        start: 0,
-        end: 0,
-        place,
-    }
-}
-
-fn answer(number: usize, id: usize, start: usize, end: usize) -> Words
-    ensures { λ r. ⌜ listOf r ≡ 0 ∷ number ∷ id ∷ start ∷ end ∷ 0 ∷ [] ⌝ }
-{
-    Words {
-        code: 0,
-        number,
-        id,
-        start,
-        end,
-        place: 0,
-    }
-}
+ghost use Rattle.strip.specs.Shapes.{wordsOf, lookupShape, layerShape, dictionaryShape, nameShape, refusalWords};
+ghost use Rattle.strip.specs.Steps.{listOf};
+use strip::Words;
+use strip::answer;
+use strip::refusal;
 
 // Refusals 10 to 19.
 fn of_dictionary_refusal(r: metadata::Refusal) -> Words
@@ -145,18 +109,4 @@ pub fn of_listing(l: listing::Listing) -> Words
         listing::Listing::NoRoom => refusal(41, 0),
         listing::Listing::Listed { count, start, end } => answer(count, 0, start, end),
     }
-}
-
-// The one writer: six words to the strip's first bytes, and the code back.
-pub fn write(strip: &mut [u8], w: Words) -> u32
-    requires { ⌜ stripBytes ≤ length (now strip) ⌝ }
-    ensures { λ r. ⌜ Wrote w (now (strip .entry)) r (now (strip .exit)) ⌝ }
-{
-    width::pack_u32(strip, 0, w.code as usize);
-    width::pack_u32(strip, 4, w.number);
-    width::pack_u32(strip, 8, w.id);
-    width::pack_u32(strip, 12, w.start);
-    width::pack_u32(strip, 16, w.end);
-    width::pack_u32(strip, 20, w.place);
-    w.code
 }

@@ -9,7 +9,7 @@ mod report;
 mod special;
 
 use cases::Outcome;
-use cases::tally::Tally;
+use tally::Tally;
 use text::find;
 
 // As many bytes as a word of the table has, and some.
@@ -67,7 +67,7 @@ fn case(t: Tally, line: &[u8]) -> Tally {
 }
 
 fn run(text: &[u8]) -> Tally {
-    let mut t = cases::tally::none();
+    let mut t = tally::none();
     let mut at: usize = 0;
     while at < text.len() {
         let end = find(text, at, b'\n');
@@ -82,6 +82,6 @@ fn run(text: &[u8]) -> Tally {
 
 fn main() {
     let mut text = io::large_buffer();
-    let n = cases::tally::load(b"cases", &mut text);
+    let n = tally::load(b"cases", &mut text);
     report::close(special::run(run(&text[0..n])));
 }

@@ -1,8 +1,8 @@
 // Each case's line to standard output, and the tally.
 use cases::expected::has_filled;
-use cases::tally::Tally;
-use cases::tally::with;
 use libc::STDOUT_FILENO;
+use tally::Tally;
+use tally::with;
 
 // Ends the line of a case that is as expected.
 pub fn good(t: Tally) -> Tally {
@@ -19,29 +19,29 @@ pub fn bad(t: Tally) -> Tally {
 // A case whose answer is a number.
 pub fn number(t: Tally, case: &[u8], got: usize, want: usize) -> Tally {
     io::write_all(STDOUT_FILENO, case);
-    ask::say(b": ", got);
+    print::say(b": ", got);
     if got == want {
         return good(t);
     }
-    ask::say(b": NOT as expected: ", want);
+    print::say(b": NOT as expected: ", want);
     bad(t)
 }
 
 // A case whose answer is bytes.
 pub fn bytes(t: Tally, case: &[u8], got: &[u8], want: &[u8]) -> Tally {
     io::write_all(STDOUT_FILENO, case);
-    ask::say(b": ", got.len());
+    print::say(b": ", got.len());
     if got.len() == 1 {
         io::write_all(STDOUT_FILENO, b" byte");
     } else {
         io::write_all(STDOUT_FILENO, b" bytes");
     }
-    ask::write_hex(got);
+    print::write_hex(got);
     if check::same(got, want) {
         return good(t);
     }
     io::write_all(STDOUT_FILENO, b": NOT as expected:");
-    ask::write_hex(want);
+    print::write_hex(want);
     bad(t)
 }
 
@@ -49,7 +49,7 @@ pub fn bytes(t: Tally, case: &[u8], got: &[u8], want: &[u8]) -> Tally {
 pub fn words(t: Tally, case: &[u8], got: &[u32], want: &[u8]) -> Tally {
     io::write_all(STDOUT_FILENO, case);
     io::write_all(STDOUT_FILENO, b":");
-    ask::write_words(got);
+    print::write_words(got);
     if has_filled(want, 0, got, got.len()) {
         return good(t);
     }
@@ -59,7 +59,7 @@ pub fn words(t: Tally, case: &[u8], got: &[u32], want: &[u8]) -> Tally {
 }
 
 pub fn close(t: Tally) {
-    ask::say(b"", t.cases);
-    ask::say(b" cases, ", t.wrong);
+    print::say(b"", t.cases);
+    print::say(b" cases, ", t.wrong);
     io::write_all(STDOUT_FILENO, b" not as expected\n");
 }

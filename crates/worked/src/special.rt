@@ -2,13 +2,13 @@
 use crate::report::bytes;
 use crate::report::number;
 use crate::report::words;
-use cases::tally::Tally;
 use libc::STDOUT_FILENO;
+use tally::Tally;
 
 // The empty dictionary into a room: the code, the room after it, and the code of the verdict on that.
 fn empty(t: Tally, room: &mut [u8], code: usize, want: &[u8], verdict: usize) -> Tally {
     io::write_all(STDOUT_FILENO, b"the empty dictionary into a room of ");
-    ask::say(b"", room.len());
+    print::say(b"", room.len());
     let t = number(t, b"", lichenhusk::lichenhusk_empty(room) as usize, code);
     let t = bytes(t, b"the room after it", room, want);
     number(t, b"its verdict", ask::dictionary(room).code, verdict)
@@ -128,7 +128,7 @@ fn word_after(ends: &[u32], k: usize) -> usize {
     if 16 <= k {
         return 0;
     }
-    ask::wide(words[k])
+    print::wide(words[k])
 }
 
 // The words after those of the names stay, and with a refusal all do.

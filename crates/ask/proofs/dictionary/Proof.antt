@@ -3,7 +3,7 @@ use mathlib.Core.Path.{_∙_}
 use native.Mathlib.Omega.{arith}
 use borrow.Author.Needs.{needs}
 use Rattle.metadata.specs.Dictionary.{verdict}
-use Rattle.words.specs.Shapes.{dictionaryShape}
+use Rattle.strip.specs.Shapes.{dictionaryShape}
 use Rattle.lichenhusk.proofs.Carries.{carried}
 use Rattle.lichenhusk.proofs.Tells.{dictionary-said}
 use Rattle.ask.proofs.dictionary.Statement.{statement}

@@ -4,7 +4,7 @@ use native.Mathlib.Omega.{arith}
 use borrow.Author.Needs.{needs}
 use Rattle.lichenhusk.specs.Strip.{filledAfter}
 use Rattle.listing.specs.Words.{listed}
-use Rattle.words.specs.Shapes.{layerShape}
+use Rattle.strip.specs.Shapes.{layerShape}
 use Rattle.lichenhusk.proofs.Carries.{carried}
 use Rattle.lichenhusk.proofs.Tells.{list-said}
 use Rattle.ask.proofs.list.Statement.{statement}

@@ -3,7 +3,7 @@ use mathlib.Core.Path.{_∙_}
 use native.Mathlib.Omega.{arith}
 use borrow.Author.Needs.{needs}
 use Rattle.lookup.specs.ByName.{lookup}
-use Rattle.words.specs.Shapes.{lookupShape}
+use Rattle.strip.specs.Shapes.{lookupShape}
 use Rattle.lichenhusk.proofs.Carries.{carried}
 use Rattle.lichenhusk.proofs.Tells.{lookup-said}
 use Rattle.ask.proofs.lookup.Statement.{statement}

@@ -3,7 +3,7 @@ use mathlib.Core.Path.{_∙_}
 use native.Mathlib.Omega.{arith}
 use borrow.Author.Needs.{needs}
 use Rattle.lookup.specs.Many.{lookups}
-use Rattle.words.specs.Shapes.{layerShape}
+use Rattle.strip.specs.Shapes.{layerShape}
 use Rattle.lichenhusk.specs.Strip.{filledAfter}
 use Rattle.lichenhusk.proofs.Carries.{carried}
 use Rattle.lichenhusk.proofs.All.{all-said}

@@ -3,7 +3,7 @@ use mathlib.Core.Path.{_∙_}
 use native.Mathlib.Omega.{arith}
 use borrow.Author.Needs.{needs}
 use Rattle.metadata.specs.Dictionary.{nameAt}
-use Rattle.words.specs.Shapes.{nameShape}
+use Rattle.strip.specs.Shapes.{nameShape}
 use Rattle.lichenhusk.proofs.Carries.{carried}
 use Rattle.lichenhusk.proofs.Tells.{name-said}
 use Rattle.ask.proofs.name.Statement.{statement}

@@ -1,6 +1,6 @@
 -- `lichenhusk::lichenhusk_dictionary` meets its contract: 40, or the words of the answer. Assumes nothing.
 use Rattle.rules.proofs.Prelude.{ap, _∙_, arith, needs}
-use Rattle.words.specs.Shapes.{wordsOf, dictionaryShape}
+use Rattle.strip.specs.Shapes.{wordsOf, dictionaryShape}
 use Rattle.lichenhusk.proofs.Laws.{no-strip, on-strip}
 use Rattle.lichenhusk.proofs.lichenhusk_dictionary.Statement.{statement}
 use Rattle.lichenhusk.proofs.lichenhusk_dictionary.Tie as tie

@@ -1,6 +1,6 @@
 -- `lichenhusk::lichenhusk_list` meets its contract: 40, or the words of the answer and of the listing. Assumes nothing.
 use Rattle.rules.proofs.Prelude.{ap, _∙_, arith, needs, lt-ltb, le-ltb, length}
-use Rattle.words.specs.Shapes.{wordsOf, layerShape, stripBytes}
+use Rattle.strip.specs.Shapes.{wordsOf, layerShape, stripBytes}
 use Rattle.lichenhusk.specs.Strip.{filledAfter}
 use Rattle.lichenhusk.proofs.Laws.{no-strip, on-strip}
 use Rattle.lichenhusk.proofs.lichenhusk_list.Statement.{statement}

@@ -1,6 +1,6 @@
 -- `lichenhusk::lichenhusk_lookup` meets its contract: 40, or the words of the answer. Assumes nothing.
 use Rattle.rules.proofs.Prelude.{ap, _∙_, arith, needs}
-use Rattle.words.specs.Shapes.{wordsOf, lookupShape}
+use Rattle.strip.specs.Shapes.{wordsOf, lookupShape}
 use Rattle.lichenhusk.proofs.Laws.{no-strip, on-strip}
 use Rattle.lichenhusk.proofs.lichenhusk_lookup.Statement.{statement}
 use Rattle.lichenhusk.proofs.lichenhusk_lookup.Tie as tie

@@ -18,6 +18,7 @@ run-spec =
     (λ c κs. search needs)  -- large-buffer-requires
     (λ c. search needs)  -- slice-aggregate-chunk
     (λ c. search needs)  -- slice-aggregate-line
+    (λ c κs. search needs)  -- start-requires
     (λ c. search needs)  -- loop-holds
     (λ c. search needs)  -- sub-turns
     (λ c κs. search needs)  -- read-line-requires

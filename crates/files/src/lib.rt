@@ -1,0 +1,102 @@
+// A file's bytes, or why it cannot be read. What cannot be read to its end is not read.
+ghost use Prim.Native.Nat.{_≤_};
+ghost use lib.ListN.{length};
+use print::quoted;
+use print::room::ROOM;
+use print::room::use_library;
+use print::tell;
+
+// What a file is read into: a byte more than a program has room for, so that a longer file is seen.
+pub const LENT: usize = ROOM + 1;
+
+pub struct File {
+    pub good: bool,
+    pub len: usize,
+}
+
+fn bad() -> File
+    ensures { λ r. ⌜ r .len ≤ 0 ⌝ }
+{
+    File {
+        good: false,
+        len: 0,
+    }
+}
+
+fn why(error: i32) {
+    if error == libc::ENOENT {
+        tell(b"there is no such file\n");
+    } else if error == libc::EACCES {
+        tell(b"that is not allowed\n");
+    } else if error == libc::EISDIR {
+        tell(b"it is a folder\n");
+    } else if error == libc::ENAMETOOLONG {
+        tell(b"its name is too long\n");
+    } else {
+        tell(b"the system refuses\n");
+    }
+}
+
+fn cannot(path: &[u8]) {
+    tell(b"cannot read ");
+    quoted(path);
+    tell(b": ");
+}
+
+fn failed(path: &[u8]) {
+    let error = os::errno();
+    cannot(path);
+    why(error);
+}
+
+// The same of standard input, on a line of its answers.
+pub fn input_failed() {
+    let error = os::errno();
+    tell(b"? cannot read standard input: ");
+    why(error);
+}
+
+fn too_long(path: &[u8]) {
+    cannot(path);
+    tell(b"it is");
+    use_library(ROOM, b" bytes");
+    tell(b"\n");
+}
+
+// As much of the file as there is room for. A read that fails, the first or a later one, leaves nothing of it.
+fn read(fd: i32, path: &[u8], out: &mut [u8]) -> File
+    ensures { λ r. ⌜ r .len ≤ length (now (out .exit)) ⌝ }
+{
+    let mut len: usize = 0;
+    while len < out.len() {
+        let got = libc::read(fd, &mut out[len..]);
+        if got < 0 {
+            failed(path);
+            return bad();
+        }
+        let n = io::count(got, &out[len..]);
+        if n == 0 {
+            return File { good: true, len };
+        }
+        len += n;
+    }
+    File { good: true, len }
+}
+
+pub fn load(path: &[u8], out: &mut [u8; LENT]) -> File
+    ensures { λ r. do ⌜ r .len ≤ (← ⟦ROOM⟧ .entry) ⌝ }
+    ensures { λ r. ⌜ r .len ≤ length (now (out .exit)) ⌝ }
+{
+    let fd = os::open_read(path);
+    if fd < 0 {
+        failed(path);
+        return bad();
+    }
+    let file = read(fd, path, out);
+    libc::close(fd);
+    if ROOM < file.len {
+        too_long(path);
+        return bad();
+    }
+    file
+}

@@ -1,0 +1,59 @@
+// What programs write to standard output, which promises safety only, and how much they hold.
+ghost use mathlib.Core.Path.{_≡_};
+
+pub mod room;
+
+use libc::STDOUT_FILENO;
+
+pub fn tell(words: &[u8]) -> bool {
+    io::write_all(STDOUT_FILENO, words)
+}
+
+// A number after some words, to standard output.
+pub fn say(words: &[u8], n: usize) {
+    tell(words);
+    io::print_decimal(STDOUT_FILENO, n as u64);
+}
+
+// The bytes of `s` in hex, a space before each.
+pub fn write_hex(s: &[u8]) {
+    for i in 0..s.len() {
+        tell(b" ");
+        io::print_hex(STDOUT_FILENO, width::wide(s[i]) as u64, 2);
+    }
+}
+
+// A word of 32 bits as a number.
+pub fn wide(x: u32) -> usize
+    ensures { λ r. ⌜ r ≡ x ⌝ }
+{
+    x as usize
+}
+
+// The words of `s`, a space before each.
+pub fn write_words(s: &[u32]) {
+    for i in 0..s.len() {
+        say(b" ", wide(s[i]));
+    }
+}
+
+// A byte of a name. What would end the quotes or reach a terminal as a control is written `\xNN`.
+fn letter(b: u8) {
+    match b {
+        0..=31 | b'"' | b'\\' | 127 => {
+            tell(b"\\x");
+            io::print_hex(STDOUT_FILENO, width::wide(b) as u64, 2);
+        }
+        _ => {
+            tell(&[b]);
+        }
+    }
+}
+
+pub fn quoted(name: &[u8]) {
+    tell(b"\"");
+    for i in 0..name.len() {
+        letter(name[i]);
+    }
+    tell(b"\"");
+}
