@@ -3,7 +3,7 @@
 ghost use mathlib.Core.Path.{_≡_};
 ghost use Prim.Native.Nat.{_≤_};
 ghost use lib.ListN.{length};
-ghost use Rattle.lookup.specs.Many.{rowsAfter};
+ghost use Rattle.many.specs.Many.{rowsAfter};
 ghost use Rattle.listing.specs.Words.{wordsAfter};
 ghost use Rattle.strip.specs.Shapes.{stripBytes};
 ghost use Rattle.lichenhusk.specs.Strip.{lookupWords, allWords, layerWords, listWords, verdictWords, nameAtWords};

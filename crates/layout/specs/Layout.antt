@@ -8,7 +8,7 @@ use Rattle.width.specs.Width.{le}
 use Rattle.rules.specs.Rules.{Rule}
 use Rattle.rules.specs.Rules.Rule.{_⇒_at_}
 use Rattle.rules.specs.Rules.Test.{_<?_}
-use Rattle.metadata.specs.Limits.{u32Max}
+use Rattle.width.specs.Limits.{u32Max}
 use Rattle.layout.specs.declared.Widths.{Widths}
 
 -- the count n

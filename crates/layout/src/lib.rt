@@ -66,18 +66,18 @@ pub fn read(s: &[u8], w: Widths) -> Head
         return Head::Cut;
     }
     let places = places_of(s, w);
-    if metadata::U32_MAX < places.offsets {
+    if width::U32_MAX < places.offsets {
         return Head::Sum;
     }
     let start = places.start;
-    if metadata::U32_MAX < start {
+    if width::U32_MAX < start {
         return Head::Sum;
     }
     if s.len() < start {
         return Head::Cut;
     }
     let end = end_of(s, w, start);
-    if metadata::U32_MAX < end {
+    if width::U32_MAX < end {
         return Head::Sum;
     }
     if s.len() < end {

@@ -5,10 +5,10 @@ use lib.Seq.{drop-at}
 use Rattle.rules.proofs.Rows.{rows-length}
 use Rattle.object.proofs.Refuses.{is-due}
 use Rattle.object.proofs.Fits.{checks-code, layer-small}
-use Rattle.lookup.specs.Many.{row, lookups, rowsAfter}
-use Rattle.lookup.proofs.Rows.{row-five}
-use Rattle.lookup.proofs.ManyMeans as many
-use Rattle.lookup.proofs.AllRows as rows
+use Rattle.many.specs.Many.{row, lookups, rowsAfter}
+use Rattle.many.proofs.Rows.{row-five}
+use Rattle.many.proofs.Means as many
+use Rattle.many.proofs.AllRows as rows
 use Rattle.strip.specs.Shapes.{wordsOf, layerShape, stripBytes}
 use Rattle.lichenhusk.specs.Strip.{allWords, filledAfter}
 use Rattle.lichenhusk.specs.Promises.{AllPromise}

@@ -2,12 +2,12 @@
 -- bytes too, so that it returns and leaves the same (Pinned), unless the code was "empty" or "short". Assumes nothing.
 use Rattle.rules.proofs.Prelude.{_≡_, _∙_, List, _++_, ℕ, _≤_, _<_, decLt, arith, lt-ltb, le-ltb, length, Answer, codeOf}
 use Rattle.run.specs.Meaning.{GoodEnds}
-use Rattle.metadata.specs.Limits.{limit}
+use Rattle.dictionary.specs.Limits.{limit}
 use Rattle.metadata.proofs.Appended.{appended, name-appended}
 use Rattle.object.proofs.Appended.{Settled, verdict-appended}
 use Rattle.lookup.proofs.Appended.{lookup-appended}
-use Rattle.lookup.specs.Many.{lookups}
-use Rattle.lookup.proofs.ManyAppended.{lookups-appended, rows-appended, run-appended, rows-run-appended}
+use Rattle.many.specs.Many.{lookups}
+use Rattle.many.proofs.Appended.{lookups-appended, rows-appended, run-appended, rows-run-appended}
 use Rattle.listing.specs.Words.{listed}
 use Rattle.listing.proofs.Appended.{listed-appended, words-appended}
 use Rattle.strip.specs.Shapes.{Shape, wordsOf, lookupShape, layerShape, dictionaryShape, nameShape, stripBytes}

@@ -2,7 +2,7 @@
 -- that meets it and is one of them cannot be. Assumes nothing.
 use Rattle.rules.proofs.Prelude.{_≡_, ap, _∙_, List, [], _∷_, ℕ, arith, getD, replicate, accept}
 use denote.Ref.{RefT}
-use Rattle.metadata.specs.declared.Refusal.the-variants.{Short}
+use Rattle.dictionary.specs.declared.Refusal.the-variants.{Short}
 use Rattle.metadata.specs.declared.Verdict.{Verdict}
 use Rattle.metadata.specs.declared.Verdict.the-variants as verdict
 use Rattle.metadata.specs.Promises.{CheckPromise}
@@ -10,10 +10,11 @@ use Rattle.metadata.proofs.Pinned.{check-pinned}
 use Rattle.lookup.specs.declared.Lookup.{Lookup}
 use Rattle.lookup.specs.declared.Lookup.the-variants as lookup
 use Rattle.lookup.specs.ByName as by-name
-use Rattle.lookup.specs.declared.Lookups.{Lookups}
-use Rattle.lookup.specs.Meaning.{rowAt}
-use Rattle.lookup.specs.Promises.{GetPromise, ChildPromise, GetAllPromise}
+use Rattle.lookup.specs.Promises.{GetPromise, ChildPromise}
 use Rattle.lookup.proofs.Pinned.{get-pinned}
+use Rattle.many.specs.declared.Lookups.{Lookups}
+use Rattle.many.specs.Meaning.{rowAt}
+use Rattle.many.specs.Promises.{GetAllPromise}
 use Rattle.listing.specs.declared.Listing.{Listing}
 use Rattle.listing.specs.Promises.{ListPromise}
 use Rattle.lichenhusk.specs.Worked.{Told, D, P, alone, flow, roll, run}

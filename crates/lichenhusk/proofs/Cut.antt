@@ -3,12 +3,12 @@
 use Rattle.rules.proofs.Prelude.{_≡_, refl, _∙_, Bool, true, false, cond, _⊎_, ⊎-elim, inl, inr, List, [], _∷_, ℕ, _<_, ltb, length, take, Answer, accept}
 use Rattle.rules.proofs.Prelude.{refuse, RefusedAs}
 use Rattle.run.specs.Meaning.{GoodEnds}
-use Rattle.metadata.specs.Dictionary as dictionary
+use Rattle.dictionary.specs.Dictionary as dictionary
 use Rattle.metadata.proofs.Cut as dictionary-cuts
-use Rattle.object.specs.Object as object
+use Rattle.layer.specs.Object as object
 use Rattle.object.proofs.Cut as object-cuts
 use Rattle.lookup.proofs.Cut as lookup-cuts
-use Rattle.lookup.proofs.ManyCut as many-cuts
+use Rattle.many.proofs.Cut as many-cuts
 use Rattle.listing.proofs.Cut as listing-cuts
 use Rattle.strip.specs.Shapes.{Shape, wordsOf, lookupShape, layerShape, dictionaryShape, nameShape, refusalWords, stripBytes}
 use Rattle.lichenhusk.specs.Strip.{filledAfter}

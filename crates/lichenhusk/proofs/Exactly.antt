@@ -1,11 +1,11 @@
 -- What a host reads, exactly when: the words of a strip that is long enough are these exactly if what they say is so (specs/Host.antt).
 -- Assumes nothing.
 use Rattle.rules.proofs.Prelude.{_≡_, sym, ap, _∙_, _↔_, List, ℕ, _≤_, arith, length, Answer}
-use Rattle.metadata.specs.Dictionary as dictionary
+use Rattle.dictionary.specs.Dictionary as dictionary
 use Rattle.metadata.proofs.Accepts as dictionary-accepts
 use Rattle.metadata.proofs.Refuses as dictionary-refuses
 use Rattle.metadata.proofs.Names as dictionary-names
-use Rattle.object.specs.Object as object
+use Rattle.layer.specs.Object as object
 use Rattle.object.proofs.Accepts.{accepts}
 use Rattle.object.proofs.Refuses.{refuses}
 use Rattle.lookup.specs.ByName.{lookup as lookup-of}

@@ -1,11 +1,11 @@
 -- Document 01's two length cases, at the limit of request d): a dictionary and an object of just that length are read, whatever stands after
 -- their ends, and those of one byte more get 10 and 20. No program has room to run these. Assumes nothing.
 use Rattle.rules.proofs.Prelude.{_≡_, ap, _∙_, List, [], _∷_, _++_, ℕ, _+_, arith, length, length-append, accept, refuse, codeOf, let-through}
-use Rattle.metadata.specs.Limits.{limit}
-use Rattle.metadata.specs.Dictionary as dictionary
+use Rattle.dictionary.specs.Limits.{limit}
+use Rattle.dictionary.specs.Dictionary as dictionary
 use Rattle.metadata.proofs.Appended.{appended}
 use Rattle.metadata.proofs.Raised as dictionary-raised
-use Rattle.object.specs.Object as object
+use Rattle.layer.specs.Object as object
 use Rattle.object.proofs.Raised as object-raised
 use Rattle.lookup.specs.ByName.{lookup}
 use Rattle.lookup.proofs.Appended.{lookup-appended}

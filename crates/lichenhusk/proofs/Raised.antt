@@ -2,14 +2,15 @@
 -- same code and leaves the same strip and the same lent words. `Left` and `Filled` of the words under a limit are what a call with that limit
 -- promises; the calls' own promises are those under `limit` (`lookup-as-before` has it written out). Assumes nothing.
 use Rattle.rules.proofs.Prelude.{_≡_, List, ℕ, _≤_, arith, length}
-use Rattle.metadata.specs.Limits.{limit}
-use Rattle.metadata.specs.Dictionary as dictionary
+use Rattle.dictionary.specs.Limits.{limit}
+use Rattle.dictionary.specs.Dictionary as dictionary
 use Rattle.metadata.proofs.Raised.{verdict-alike, name-alike, raised}
-use Rattle.object.specs.Object as object
+use Rattle.layer.specs.Object as object
 use Rattle.object.proofs.Raised as layer
 use Rattle.lookup.specs.ByName.{lookupWithin}
-use Rattle.lookup.specs.Many.{lookupsWithin, rowsAfterWithin}
-use Rattle.lookup.proofs.Raised.{lookup-alike, lookups-alike, rows-alike}
+use Rattle.lookup.proofs.Raised.{lookup-alike}
+use Rattle.many.specs.Many.{lookupsWithin, rowsAfterWithin}
+use Rattle.many.proofs.Raised.{lookups-alike, rows-alike}
 use Rattle.listing.specs.Words.{listedWithin, wordsAfterWithin}
 use Rattle.listing.proofs.Raised.{listed-alike, words-alike}
 use Rattle.strip.specs.Shapes.{wordsOf, lookupShape, layerShape, dictionaryShape, nameShape}

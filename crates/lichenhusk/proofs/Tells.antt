@@ -3,8 +3,8 @@
 use Rattle.rules.proofs.Prelude.{_≡_, refl, sym, ap, _∙_, _↔_, List, _++_, ℕ, _+_, _*_, _≤_, _<_, add-zero, decLt, arith, lt-ltb, le-ltb}
 use Rattle.rules.proofs.Prelude.{length, drop, getD, List·getD-append, Answer, codeOf, by-meaning}
 use Rattle.chars.specs.Rfc3629.{Completed}
-use Rattle.metadata.specs.Dictionary as dictionary
-use Rattle.metadata.specs.Meaning.{Refusal}
+use Rattle.dictionary.specs.Dictionary as dictionary
+use Rattle.dictionary.specs.Meaning.{Refusal}
 use Rattle.metadata.proofs.Means as dictionary-means
 use Rattle.metadata.proofs.Refuses as dictionary-refuses
 use Rattle.metadata.proofs.Refuses.{NoText}
@@ -14,7 +14,7 @@ use Rattle.metadata.proofs.Says.{too-small, enough}
 use Rattle.part.specs.Part.{part}
 use Rattle.value.specs.declared.Length.the-variants.{Known}
 use Rattle.value.specs.Encoding.{ownLength}
-use Rattle.object.specs.Object as object
+use Rattle.layer.specs.Object as object
 use Rattle.object.proofs.Means.{checks-mean}
 use Rattle.object.proofs.Refuses.{is-due}
 use Rattle.object.proofs.Fits.{checks-code, layer-small, child-small}

@@ -6,14 +6,15 @@ use Rattle.chars.specs.Rfc3629.{leadOf, tailsOf, char, textUpTo, begins}
 use Rattle.utf8.specs.Utf8.{isCut}
 use Rattle.names.specs.Order.{compareOf, below}
 use Rattle.names.specs.Search.{same, seek}
-use Rattle.metadata.specs.Limits.{limit, u32Max}
-use Rattle.metadata.specs.Dictionary as dictionary
-use Rattle.object.specs.Object as object
+use Rattle.width.specs.Limits.{u32Max}
+use Rattle.dictionary.specs.Limits.{limit}
+use Rattle.dictionary.specs.Dictionary as dictionary
+use Rattle.layer.specs.Object as object
 use Rattle.layout.specs.Layout as layout
 use Rattle.value.specs.Encoding as value
 use Rattle.run.specs.Run as run
 use Rattle.lookup.specs.ByName as by-name
-use Rattle.lookup.specs.Many as many
+use Rattle.many.specs.Many as many
 use Rattle.listing.specs.Words as listing
 use Rattle.strip.specs.Shapes.{bytesOfWords}
 use Rattle.lichenhusk.specs.Strip.{stripAfter}

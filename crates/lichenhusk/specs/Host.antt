@@ -7,15 +7,16 @@ use Prim.Native.Nat.{ℕ, _*_, _≤_, _<_}
 use lib.ListN.{length, drop}
 use Rattle.width.specs.Width.{le}
 use Rattle.part.specs.Part.{part}
-use Rattle.metadata.specs.Dictionary.{emptyBytes}
-use Rattle.metadata.specs.Meaning as dictionary
-use Rattle.object.specs.Meaning.{Layer, Refusal}
+use Rattle.dictionary.specs.Dictionary.{emptyBytes}
+use Rattle.dictionary.specs.Meaning as dictionary
+use Rattle.layer.specs.Meaning.{Layer, Refusal}
 use Rattle.run.specs.Run.{name}
 use Rattle.run.specs.Meaning.{BadEnd}
 use Rattle.lookup.specs.ByName.{lookup}
-use Rattle.lookup.specs.Many.{rowOf}
-use Rattle.lookup.specs.Meaning as many
-use Rattle.lookup.specs.Meaning.{Found, Absent, Answered, RefusedAfter, rowAt}
+use Rattle.lookup.specs.Meaning.{Found, Absent}
+use Rattle.many.specs.Many.{rowOf}
+use Rattle.many.specs.Meaning as many
+use Rattle.many.specs.Meaning.{Answered, RefusedAfter, rowAt}
 use Rattle.listing.specs.Words.{rows}
 use Rattle.listing.specs.Meaning.{Listed, NoLength, NoRoom}
 use Rattle.strip.specs.Shapes.{refusalWords, stripBytes}

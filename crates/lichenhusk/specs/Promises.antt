@@ -4,8 +4,8 @@ use mathlib.Core.Path.{_≡_}
 use mathlib.Core.List.{List}
 use Prim.Native.Nat.{ℕ}
 use Rattle.rules.specs.Rules.{codeOf}
-use Rattle.metadata.specs.Dictionary.{emptied, roomAfter}
-use Rattle.lookup.specs.Many.{rowsAfter}
+use Rattle.dictionary.specs.Dictionary.{emptied, roomAfter}
+use Rattle.many.specs.Many.{rowsAfter}
 use Rattle.listing.specs.Words.{wordsAfter}
 use Rattle.lichenhusk.specs.Strip.{lookupWords, allWords, layerWords, listWords, verdictWords, nameAtWords, returned, stripAfter, filledAfter}
 

@@ -5,10 +5,10 @@ use mathlib.Core.List.{List, _++_}
 use Prim.Native.Nat.{ℕ}
 use lib.Dec.{ltb}
 use lib.ListN.{length, drop, getD}
-use Rattle.metadata.specs.Dictionary as dictionary
-use Rattle.object.specs.Object as object
+use Rattle.dictionary.specs.Dictionary as dictionary
+use Rattle.layer.specs.Object as object
 use Rattle.lookup.specs.ByName as by-name
-use Rattle.lookup.specs.Many as many
+use Rattle.many.specs.Many as many
 use Rattle.listing.specs.Words as listing
 use Rattle.strip.specs.Shapes.{wordsOf, lookupShape, layerShape, dictionaryShape, nameShape, bytesOfWords, stripBytes}
 

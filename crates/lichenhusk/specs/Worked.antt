@@ -4,10 +4,10 @@ use mathlib.Core.List.{List, [], _∷_, _++_}
 use Prim.Native.Nat.{ℕ}
 use lib.ListN.{replicate}
 use Rattle.rules.specs.Rules.{Answer, refuse, accept}
-use Rattle.metadata.specs.Dictionary as dictionary
-use Rattle.object.specs.Object as object
+use Rattle.dictionary.specs.Dictionary as dictionary
+use Rattle.layer.specs.Object as object
 use Rattle.lookup.specs.ByName as by-name
-use Rattle.lookup.specs.Many as many
+use Rattle.many.specs.Many as many
 use Rattle.listing.specs.Words.{listed as list-of, wordsAfter}
 use Rattle.lichenhusk.specs.Strip.{lookupWords, stripAfter}
 

@@ -36,7 +36,7 @@ pub extern "C" fn lichenhusk_lookup_all(
     if strip.len() < STRIP {
         return 40;
     }
-    let six = words::of_lookups(lookup::get_all(dict, object, names, ends, words));
+    let six = words::of_lookups(many::get_all(dict, object, names, ends, words));
     strip::write(strip, six)
 }
 

@@ -2,11 +2,11 @@
 -- the answer was empty or short (11, 13, 21 or 23). Assumes nothing.
 use Rattle.rules.proofs.Prelude.{_≡_, refl, false, List, [], _∷_, _++_, ℕ, _+_, _*_, _≤_, _<_, arith, length, drop, Found, Stays, codeOf, first, each, _orElse_}
 use Rattle.rules.proofs.Prelude.{unlessRefused, each-same, _otherwise_, _<?_, _⇒_at_, pass, stop, both-pass, same-stays, stays-then, stays-answer}
-use Rattle.metadata.specs.Limits.{limit}
+use Rattle.dictionary.specs.Limits.{limit}
 use Rattle.part.proofs.Laws.{part-append}
-use Rattle.object.specs.Object.{count, offset, start, end, checks, layer}
-use Rattle.object.specs.Meaning.{InRegion}
-use Rattle.object.proofs.Laws.{end-is}
+use Rattle.layer.specs.Object.{count, offset, start, end, checks, layer}
+use Rattle.layer.specs.Meaning.{InRegion}
+use Rattle.layer.proofs.Laws.{end-is}
 use Rattle.object.proofs.Means.{good}
 use Rattle.object.proofs.Appended.{lifted, Settled, unlifted, counted, count-same, start-same, id-same, offset-same, end-same, layer-same, checks-kept}
 use Rattle.listing.specs.Words.{child, span, spanRules, row, rows, listChecks, listChecksWithin, listed, listedWithin, wordsAfter, wordsAfterWithin}

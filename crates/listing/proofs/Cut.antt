@@ -1,8 +1,8 @@
 -- An accepted dictionary cut anywhere before its trimmed end makes the listing answer 11 or 13 at place 0, an accepted object cut likewise 21
 -- or 23; and the words stay as they were lent. Assumes nothing.
 use Rattle.rules.proofs.Prelude.{_≡_, ⊎-elim, List, [], _∷_, ℕ, _<_, take, accept, StopsAs, RefusedAs, stops-first, refused-as}
-use Rattle.metadata.specs.Dictionary as dictionary
-use Rattle.object.specs.Object.{checks, verdict}
+use Rattle.dictionary.specs.Dictionary as dictionary
+use Rattle.layer.specs.Object.{checks, verdict}
 use Rattle.object.proofs.Cut.{dictionary-stopped, object-stopped}
 use Rattle.listing.specs.Words.{listChecksWithin, listed, listedWithin, wordsAfter, wordsAfterWithin}
 

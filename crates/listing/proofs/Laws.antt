@@ -3,9 +3,9 @@ use Rattle.rules.proofs.Prelude.{_≡_, List, ℕ, _+_, _-_, _≤_, arith, leng
 use Rattle.part.specs.Part.{part}
 use Rattle.part.proofs.Laws.{part-length}
 use Rattle.value.proofs.Means.{bytes-at-hand}
-use Rattle.object.specs.Object.{offset, start, end}
-use Rattle.object.specs.Meaning.{InRegion}
-use Rattle.object.proofs.Laws.{end-is}
+use Rattle.layer.specs.Object.{offset, start, end}
+use Rattle.layer.specs.Meaning.{InRegion}
+use Rattle.layer.proofs.Laws.{end-is}
 use Rattle.listing.specs.Words.{child, span}
 
 module _ (o : List ℕ) (k : ℕ) where

@@ -6,7 +6,7 @@ use Rattle.value.specs.declared.Length.the-variants.{Known}
 use Rattle.value.specs.Encoding.{ownLength}
 use Rattle.value.proofs.Means.{exactly-when}
 use Rattle.value.proofs.Appended.{some-bytes}
-use Rattle.object.specs.Object.{count, id, offset, start, end}
+use Rattle.layer.specs.Object.{count, id, offset, start, end}
 use Rattle.listing.specs.Words.{child, span, row, rows}
 use Rattle.listing.specs.Meaning.{Listed}
 use Rattle.listing.proofs.Laws.{span-inside}

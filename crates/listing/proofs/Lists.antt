@@ -3,8 +3,8 @@
 -- otherwise as the verdict does. Assumes nothing.
 use Rattle.rules.proofs.Prelude.{_≡_, _∙_, _↔_, List, [], _∷_, _++_, ℕ, _*_, _<_, arith, drop, Answer, accept, refuse, first, each}
 use Rattle.rules.proofs.Prelude.{pass, stop, answered, refused, goes, stops, first-at, first-pass, each-pass, each-stop, by-meaning}
-use Rattle.object.specs.Object.{count}
-use Rattle.object.specs.Meaning.{Refusal}
+use Rattle.layer.specs.Object.{count}
+use Rattle.layer.specs.Meaning.{Refusal}
 use Rattle.object.proofs.Accepts.{all-pass}
 use Rattle.object.proofs.Refuses.{is-due}
 use Rattle.object.proofs.Fits.{checks-code}

@@ -5,8 +5,8 @@ use Rattle.value.specs.declared.Length.the-variants.{Known}
 use Rattle.value.specs.Encoding.{ownLength, isKnown}
 use Rattle.value.specs.Meaning.{Due}
 use Rattle.value.proofs.Means.{exactly-when, is-known}
-use Rattle.object.specs.Object.{count, start, end}
-use Rattle.object.specs.Meaning.{Refusal}
+use Rattle.layer.specs.Object.{count, start, end}
+use Rattle.layer.specs.Meaning.{Refusal}
 use Rattle.object.proofs.Means.{checks-mean}
 use Rattle.listing.specs.Words.{child, span, spanRules, listChecks, listChecksWithin}
 use Rattle.listing.specs.Meaning.{Spans, Listed, NoLength, NoRoom}

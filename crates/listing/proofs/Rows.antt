@@ -1,7 +1,7 @@
 -- Rows of three words a field, written from the front. Assumes nothing.
 use Rattle.rules.proofs.Prelude.{_≡_, refl, List, _++_, ℕ, suc, _+_, _*_, _≤_, arith, length, set, drop}
 use Rattle.rules.proofs.Rows as written
-use Rattle.object.specs.Object.{id, offset, start}
+use Rattle.layer.specs.Object.{id, offset, start}
 use Rattle.listing.specs.Words.{span, row, rows}
 
 pub row-three : (o : List ℕ) (k : ℕ) → length (row o k) ≡ 3

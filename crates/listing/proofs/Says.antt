@@ -2,9 +2,9 @@
 -- specs/Meaning.antt. An answer that meets the promise is meant. Assumes nothing.
 use Rattle.rules.proofs.Prelude.{_≡_, sym, _∙_, true, false, _↔_, List, _++_, ℕ, _*_, drop, false-true}
 use Rattle.metadata.proofs.Pinned.{refusalBy as dictionaryBy}
-use Rattle.object.specs.declared.Refusal.{Refusal}
-use Rattle.object.specs.Answers.{refusalNumber, refusalPlace}
-use Rattle.object.specs.Meaning.{Refusal as Due}
+use Rattle.layer.specs.declared.Refusal.{Refusal}
+use Rattle.layer.specs.Answers.{refusalNumber, refusalPlace}
+use Rattle.layer.specs.Meaning.{Refusal as Due}
 use Rattle.object.proofs.Pinned.{refusalBy, refusal-back}
 use Rattle.listing.specs.declared.Listing.the-variants as listing
 use Rattle.listing.specs.Words.{rows}

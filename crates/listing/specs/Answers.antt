@@ -1,7 +1,7 @@
 -- Document 01's number, values and place for each case of the listing's answer. Assumes nothing.
 use mathlib.Core.List.{[], _∷_}
 use Rattle.rules.specs.Rules.{Answer, refuse, accept}
-use Rattle.object.specs.Answers.{refused}
+use Rattle.layer.specs.Answers.{refused}
 use Rattle.listing.specs.declared.Listing.{Listing}
 use Rattle.listing.specs.declared.Listing.the-variants as listing
 

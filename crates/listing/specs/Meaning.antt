@@ -5,8 +5,8 @@ use Prim.Native.Nat.{ℕ, _*_, _≤_, _<_}
 use lib.ListN.{length}
 use Rattle.value.specs.declared.Length.the-variants.{Known}
 use Rattle.value.specs.Meaning.{Due}
-use Rattle.object.specs.Object.{count, start, end}
-use Rattle.object.specs.Meaning.{Layer}
+use Rattle.layer.specs.Object.{count, start, end}
+use Rattle.layer.specs.Meaning.{Layer}
 use Rattle.listing.specs.Words.{child, span}
 
 -- field k's child has an own length, and its span is that

@@ -2,7 +2,7 @@
 use mathlib.Core.Bool.{Bool, true, false}
 use Rattle.rules.specs.Rules.{Found}
 use Rattle.rules.specs.Rules.Found.{pass, stop}
-use Rattle.object.specs.declared.Layer.{Layer}
+use Rattle.layer.specs.declared.Layer.{Layer}
 use Rattle.listing.specs.declared.Measured.{Measured}
 use Rattle.listing.specs.declared.Measured.the-variants as measured
 use Rattle.listing.specs.declared.Listing.{Listing}

@@ -6,9 +6,9 @@ use Rattle.part.specs.Part.{part}
 use Rattle.rules.specs.Rules.{Answer, Rule, Found, first, each, _orElse_, _otherwise_, unlessRefused}
 use Rattle.rules.specs.Rules.Rule.{_⇒_at_}
 use Rattle.rules.specs.Rules.Test.{_<?_, isn't}
-use Rattle.metadata.specs.Limits.{limit}
+use Rattle.dictionary.specs.Limits.{limit}
 use Rattle.value.specs.Encoding.{ownLength, isKnown, bytesOf}
-use Rattle.object.specs.Object.{count, id, offset, start, end, checksWithin, layer}
+use Rattle.layer.specs.Object.{count, id, offset, start, end, checksWithin, layer}
 
 -- Field k's child runs from the region's start plus its offset to the trimmed end
 unfoldable pub child : List ℕ → ℕ → List ℕ

@@ -6,18 +6,18 @@ ghost use Prim.Native.Nat.{ℕ, _*_, _≤_, _<_};
 ghost use lib.ListN.{length, drop};
 ghost use Rattle.rules.specs.Rules.{first, each};
 ghost use Rattle.value.specs.Encoding.{ownLength};
-ghost use Rattle.object.specs.Object.{count as countOf};
-ghost use Rattle.object.specs.Meaning.{InRegion};
-ghost use Rattle.object.specs.Steps.{LayerOf};
+ghost use Rattle.layer.specs.Object.{count as countOf};
+ghost use Rattle.layer.specs.Meaning.{InRegion};
+ghost use Rattle.layer.specs.Steps.{LayerOf};
 ghost use Rattle.listing.specs.Words.{child as childOf, spanRules, rows};
 ghost use Rattle.listing.specs.Steps.{foundOf, isAll, answerOf};
 ghost use Rattle.listing.specs.Promises.{ListPromise};
-use object::Layer;
+use layer::Layer;
 use object::Opening;
 
 // The layer's refusals; 43, at the first field whose child has no own length; 41; or the layer's numbers.
 pub enum Listing {
-    Refused(object::Refusal),
+    Refused(layer::Refusal),
     NoLength(usize),
     NoRoom,
     Listed {
@@ -32,7 +32,7 @@ fn own_length(object: &[u8], l: Layer, k: usize) -> value::Length
     requires { ⌜ LayerOf (now object) l × (k < countOf (now object)) × InRegion (now object) k ⌝ }
     ensures { λ r. ⌜ r ≡ ownLength (childOf (now (object .entry)) k) ⌝ }
 {
-    let start = l.start + object::offset_at(object, l, k);
+    let start = l.start + layer::offset_at(object, l, k);
     let end = l.end;
     value::own_length(&object[start..end])
 }
@@ -102,9 +102,9 @@ fn write_rows(object: &[u8], l: Layer, words: &mut [u32])
     let mut at = 0;
     let mut k = 0;
     while k < fields {
-        let offset = object::offset_at(object, l, k);
+        let offset = layer::offset_at(object, l, k);
         let span = value::bytes_of(own_length(object, l, k));
-        words[at] = object::id_at(object, l, k) as u32;
+        words[at] = layer::id_at(object, l, k) as u32;
         words[at + 1] = (l.start + offset) as u32;
         words[at + 2] = span as u32;
         at += 3;

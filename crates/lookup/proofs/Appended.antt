@@ -6,9 +6,9 @@ use Rattle.part.proofs.Laws.{part-append}
 use Rattle.names.specs.Search.{Sought, seek}
 use Rattle.names.specs.Search.Sought.{nowhere, here}
 use Rattle.names.proofs.Search.{seek-at, seek-same}
-use Rattle.metadata.specs.Limits.{limit}
-use Rattle.object.specs.Object.{count, start, fieldName, checks}
-use Rattle.object.proofs.Laws.{passes, entry-of}
+use Rattle.dictionary.specs.Limits.{limit}
+use Rattle.layer.specs.Object.{count, start, fieldName, checks}
+use Rattle.layer.proofs.Laws.{passes, entry-of}
 use Rattle.object.proofs.Means.{good}
 use Rattle.object.proofs.Appended.{lifted, Settled, unlifted, counted, count-same, start-same, id-same, offset-same, end-same, field-same, checks-kept}
 use Rattle.lookup.specs.ByName.{found, lookup, lookupWithin, startOf, endOf}

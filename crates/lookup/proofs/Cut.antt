@@ -1,8 +1,8 @@
 -- An accepted dictionary cut anywhere before its trimmed end makes the lookup answer 11 or 13 at place 0, an accepted object cut likewise 21 or
 -- 23; and the child is then the empty part at the object's start. Assumes nothing.
 use Rattle.rules.proofs.Prelude.{_≡_, refl, ⊎-elim, List, [], _∷_, ℕ, _<_, take, Answer, accept, RefusedAs, refused-as}
-use Rattle.metadata.specs.Dictionary as dictionary
-use Rattle.object.specs.Object.{verdict}
+use Rattle.dictionary.specs.Dictionary as dictionary
+use Rattle.layer.specs.Object.{verdict}
 use Rattle.object.proofs.Cut.{dictionary-stopped, object-stopped}
 use Rattle.lookup.specs.ByName.{lookup, lookupWithin, startOf, endOf}
 

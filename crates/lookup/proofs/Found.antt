@@ -5,12 +5,12 @@ use Rattle.rules.proofs.Prelude.{by-meaning}
 use Rattle.names.specs.Search.{Sought, seek}
 use Rattle.names.specs.Search.Sought.{nowhere, here}
 use Rattle.names.proofs.Search as names
-use Rattle.metadata.specs.Dictionary as dictionary
-use Rattle.metadata.specs.Meaning.{Named}
+use Rattle.dictionary.specs.Dictionary as dictionary
+use Rattle.dictionary.specs.Meaning.{Named}
 use Rattle.metadata.proofs.Names.{named, name-there}
-use Rattle.object.specs.Object.{count, id, offset, start, end, fieldName}
-use Rattle.object.specs.Meaning.{Layer, Refusal}
-use Rattle.object.proofs.Laws.{names-rise, end-is}
+use Rattle.layer.specs.Object.{count, id, offset, start, end, fieldName}
+use Rattle.layer.specs.Meaning.{Layer, Refusal}
+use Rattle.layer.proofs.Laws.{names-rise, end-is}
 use Rattle.object.proofs.Means.{checks-mean}
 use Rattle.object.proofs.Accepts.{all-pass}
 use Rattle.object.proofs.Refuses.{is-due}

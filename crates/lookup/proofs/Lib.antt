@@ -1,12 +1,7 @@
 pub mod FromAbove
-pub mod Rows
 pub mod Found
-pub mod ManyMeans
-pub mod AllRows
 pub mod Pinned
 pub mod Appended
-pub mod ManyAppended
 pub mod Cut
-pub mod ManyCut
 pub mod Says
 pub mod Raised

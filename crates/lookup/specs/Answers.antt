@@ -4,24 +4,16 @@ use mathlib.Core.List.{List, [], _∷_}
 use Prim.Native.Nat.{ℕ, _+_}
 use denote.Ref.{RefT}
 use Rattle.part.specs.Part.{part}
-use Rattle.rules.specs.Rules.{Answer, refuse, accept}
-use Rattle.object.specs.Answers.{refused}
+use Rattle.rules.specs.Rules.{Answer, accept}
+use Rattle.layer.specs.Answers.{refused}
 use Rattle.lookup.specs.ByName.{absent}
 use Rattle.lookup.specs.declared.Lookup.{Lookup}
 use Rattle.lookup.specs.declared.Lookup.the-variants as lookup
-use Rattle.lookup.specs.declared.Lookups.{Lookups}
-use Rattle.lookup.specs.declared.Lookups.the-variants as lookups
 
 abbrev pub lookupNumbers : Lookup → Answer
 lookupNumbers (lookup.Refused r) = refused r
 lookupNumbers lookup.Absent = absent
 lookupNumbers (lookup.Found k i a e) = accept (k ∷ i ∷ a ∷ e ∷ [])
-
-abbrev pub lookupsNumbers : Lookups → Answer
-lookupsNumbers (lookups.BadEnd k) = refuse 45 k
-lookupsNumbers (lookups.Refused r) = refused r
-lookupsNumbers lookups.NoRoom = refuse 41 0
-lookupsNumbers (lookups.Answered n v e) = accept (n ∷ v ∷ e ∷ [])
 
 -- A PART THAT IS HANDED BACK: its bytes, and the place where it starts, an empty part's too
 pub record PartOf (whole r : RefT (List ℕ)) (from to : ℕ) : Type 0 where

@@ -7,8 +7,8 @@ use Rattle.names.specs.Search.{Sought, seek}
 use Rattle.names.specs.Search.Sought.{nowhere, here}
 use Rattle.rules.specs.Rules.{Answer, accept, _otherwise_}
 use Rattle.rules.specs.Rules.Answer.{gives}
-use Rattle.metadata.specs.Limits.{limit}
-use Rattle.object.specs.Object.{count, id, offset, start, end, fieldName, checksWithin}
+use Rattle.dictionary.specs.Limits.{limit}
+use Rattle.layer.specs.Object.{count, id, offset, start, end, fieldName, checksWithin}
 
 -- Found gives field, the field's id, start and end, these two counted from the object's first byte; absent is 1
 abbrev pub absent : Answer

@@ -1,5 +1,4 @@
 pub mod ByName
-pub mod Many
 pub mod Meaning
 pub mod Answers
 pub mod Promises

@@ -1,15 +1,13 @@
--- What the lookup's answers say, in the words of document 01 and, of the id, request c) of document 02, and what those of many names say.
--- proofs/Found.antt shows that the lookup of ByName.antt says the same, proofs/ManyMeans.antt that Many.antt does. Assumes nothing.
+-- What the lookup's answers say, in the words of document 01 and, of the id, request c) of document 02. proofs/Found.antt shows that the
+-- lookup of ByName.antt says the same. Assumes nothing.
 use mathlib.Core.Path.{_≡_}
 use mathlib.Core.List.{List, [], _∷_}
-use Prim.Native.Nat.{ℕ, _+_, _*_, _≤_, _<_}
-use lib.ListN.{length, getD}
+use Prim.Native.Nat.{ℕ, _+_, _<_}
 use Rattle.rules.specs.Rules.{Answer, accept}
 use Rattle.part.specs.Part.{part}
-use Rattle.run.specs.Meaning.{GoodEnds}
-use Rattle.metadata.specs.Dictionary as dictionary
-use Rattle.object.specs.Object.{count, id, offset, start, end, fieldName}
-use Rattle.object.specs.Meaning.{Layer, Refusal}
+use Rattle.dictionary.specs.Dictionary as dictionary
+use Rattle.layer.specs.Object.{count, id, offset, start, end, fieldName}
+use Rattle.layer.specs.Meaning.{Layer, Refusal}
 
 -- found: the layer is accepted, k is one of its fields, field k's dictionary bytes equal the query; i is the field's id, and so the dictionary's
 -- bytes at i are the query; the child runs from a to e and is never empty
@@ -37,33 +35,3 @@ pub data NotFound (d o q : List ℕ) : Type 0 where
 -- an answer to `name by number` that gives q: the dictionary's bytes where it says are q
 pub data Spells (d q : List ℕ) : Answer → Type 0 where
   spells : {s t : ℕ} → part d s t ≡ q → Spells d q (accept (s ∷ t ∷ []))
-
--- MANY NAMES; 45 is the run's own `BadEnd`
-
--- answered: the ends are good, the layer is accepted, and there is room for five words a name
-pub record Answered (d o names ends words : List ℕ) (n v e : ℕ) : Type 0 where
-  pub good : GoodEnds names ends
-  pub accepted : Layer d o n v e
-  pub room : 5 * length ends ≤ length words
-
--- 41: the ends are good, the layer is accepted, and there is not
-pub record NoRoom (d o names ends words : List ℕ) : Type 0 where
-  pub good : GoodEnds names ends
-  pub accepted : Layer d o (count o) (start o) (end o)
-  pub short : length words < 5 * length ends
-
--- c at p: the ends are good, and the dictionary's or the layer's refusal is due
-pub record RefusedAfter (d o names ends : List ℕ) (c p : ℕ) : Type 0 where
-  pub good : GoodEnds names ends
-  pub due : Refusal d o c p
-
--- the five words of name k
-abbrev pub rowAt : List ℕ → ℕ → List ℕ
-rowAt after k = getD after (5 * k) 0 ∷ getD after (5 * k + 1) 0 ∷ getD after (5 * k + 2) 0 ∷ getD after (5 * k + 3) 0 ∷ getD after (5 * k + 4) 0 ∷ []
-
--- the words of a name that is found as field f with id i, its child from a to e; and of one that is absent
-abbrev pub foundRow : ℕ → ℕ → ℕ → ℕ → List ℕ
-foundRow f i a e = 0 ∷ f ∷ i ∷ a ∷ e ∷ []
-
-abbrev pub absentRow : List ℕ
-absentRow = 1 ∷ 0 ∷ 0 ∷ 0 ∷ 0 ∷ []

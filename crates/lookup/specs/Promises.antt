@@ -4,10 +4,8 @@ use mathlib.Core.List.{List}
 use Prim.Native.Nat.{ℕ}
 use denote.Ref.{RefT}
 use Rattle.lookup.specs.declared.Lookup.{Lookup}
-use Rattle.lookup.specs.declared.Lookups.{Lookups}
 use Rattle.lookup.specs.ByName.{lookup, startOf, endOf}
-use Rattle.lookup.specs.Many.{lookups, rowsAfter}
-use Rattle.lookup.specs.Answers.{lookupNumbers, lookupsNumbers, PartOf}
+use Rattle.lookup.specs.Answers.{lookupNumbers, PartOf}
 
 abbrev pub GetPromise : List ℕ → List ℕ → List ℕ → Lookup → Type 0
 GetPromise d o q r = lookupNumbers r ≡ lookup d o q
@@ -15,8 +13,3 @@ GetPromise d o q r = lookupNumbers r ≡ lookup d o q
 -- the part of the object where the lookup's child lies, by its bytes and its place
 abbrev pub ChildPromise : List ℕ → RefT (List ℕ) → List ℕ → RefT (List ℕ) → Type 0
 ChildPromise d object q r = PartOf object r (startOf (lookup d (object .now) q)) (endOf (lookup d (object .now) q))
-
--- many names: the answer, and the words after it
-pub record GetAllPromise (d o names ends words : List ℕ) (r : Lookups) (after : List ℕ) : Type 0 where
-  pub answers : lookupsNumbers r ≡ lookups d o names ends words
-  pub leaves : after ≡ rowsAfter d o names ends words

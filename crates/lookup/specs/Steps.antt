@@ -1,20 +1,15 @@
 -- What the steps of the lookup answer each other, in the words of ByName.antt. Assumes nothing.
 use mathlib.Core.Path.{_≡_}
-use mathlib.Core.List.{List, [], _∷_}
-use Prim.Native.Nat.{ℕ, _+_, _%_, _≤_, _<_}
+use mathlib.Core.List.{List}
+use Prim.Native.Nat.{ℕ, _≤_, _<_}
 use lib.ListN.{length}
 use Rattle.names.specs.Order.{Before}
-use Rattle.names.specs.Steps.{KeyOf}
-use Rattle.run.specs.Run.{begin, name}
-use Rattle.object.specs.Object.{count, offset, start, end, fieldName}
+use Rattle.layer.specs.Object.{count, fieldName}
 use Rattle.names.specs.Search.{Sought}
 use Rattle.names.specs.Search.Sought.{nowhere, here}
 use Rattle.lookup.specs.declared.Search.{Search}
 use Rattle.lookup.specs.declared.Search.the-variants as search
 use Rattle.lookup.specs.declared.Place.{Place}
-use Rattle.lookup.specs.declared.Spot.{Spot}
-use Rattle.lookup.specs.declared.Four.{Four}
-use Rattle.lookup.specs.declared.Row.{Row}
 use Rattle.lookup.specs.ByName.{lookup, startOf, endOf}
 
 abbrev pub soughtOf : Search → Sought
@@ -31,41 +26,3 @@ pub record PlaceOf (d o q : List ℕ) (p : Place) : Type 0 where
 -- all fields from `from` on come after the query
 abbrev pub AllAbove : (d o q : List ℕ) → ℕ → Type 0
 AllAbove d o q from = (k : ℕ) → from ≤ k → k < count o → Before q (fieldName d o k)
-
--- a step up was taken, or the name there has a key above the query's
-pub data Probed (name : List ℕ) (key at step : ℕ) : ℕ → Type 0 where
-  taken : Probed name key at step (at + step)
-  kept : {p : ℕ} → KeyOf name p → key < p → Probed name key at step at
-
--- the field at the spot is the last that may be the query's, if there is a field
-pub record SpotOf (d o q : List ℕ) (s : Spot) : Type 0 where
-  pub key-is : KeyOf q (s .key)
-  pub inside : 0 < count o → s .at < count o
-  pub above : AllAbove d o q (s .at + 1)
-
--- name k begins there
-pub record NameAt (ends : List ℕ) (k from : ℕ) : Type 0 where
-  pub is-name : k < length ends
-  pub begins : from ≡ begin ends k
-
--- the spot of name k; and those of the names after it in its four
-pub record SpotsOf (d o names ends : List ℕ) (k : ℕ) (t : Four) : Type 0 where
-  pub this : SpotOf d o (name names ends k) (t .first)
-  pub next : k % 4 ≤ 2 → k + 1 < length ends → SpotOf d o (name names ends (k + 1)) (t .second)
-  pub third : k % 4 ≤ 1 → k + 2 < length ends → SpotOf d o (name names ends (k + 2)) (t .third)
-  pub fourth : k % 4 ≡ 0 → k + 3 < length ends → SpotOf d o (name names ends (k + 3)) (t .fourth)
-
--- what was found before of them, where name k is not the first of its four
-pub record Ahead (d o names ends : List ℕ) (k : ℕ) (t : Four) : Type 0 where
-  pub this : 1 ≤ k % 4 → k < length ends → SpotOf d o (name names ends k) (t .first)
-  pub next : 1 ≤ k % 4 → k % 4 ≤ 2 → k + 1 < length ends → SpotOf d o (name names ends (k + 1)) (t .second)
-  pub third : k % 4 ≡ 1 → k + 2 < length ends → SpotOf d o (name names ends (k + 2)) (t .third)
-
--- what was found is a field whose child lies in the object
-abbrev pub InLayer : List ℕ → Sought → Type 0
-InLayer o nowhere = Unit {0}
-InLayer o (here k) = (k < count o) × (start o + offset o k ≤ end o)
-
--- a row's words
-abbrev pub wordsOf : Row → List ℕ
-wordsOf r = r .code ∷ r .field ∷ r .id ∷ r .start ∷ r .end ∷ []

@@ -1,8 +1,8 @@
 -- A dictionary is accepted, with its entry count and its trimmed end, exactly when the rules of document 01 hold of it (the record
--- `Dictionary` of specs/Meaning.antt). Assumes nothing.
+-- `Dictionary` of dictionary/specs/Meaning.antt). Assumes nothing.
 use Rattle.rules.proofs.Prelude.{_≡_, _∙_, _↔_, List, [], _∷_, ℕ, accept, pass, let-through, answered, each-pass}
-use Rattle.metadata.specs.Dictionary.{count, end, entryRules, checks, verdict, verdictWithin}
-use Rattle.metadata.specs.Meaning.{Dictionary}
+use Rattle.dictionary.specs.Dictionary.{count, end, entryRules, checks, verdict, verdictWithin}
+use Rattle.dictionary.specs.Meaning.{Dictionary}
 use Rattle.metadata.proofs.Means.{by-entries, good-passed, good}
 
 module _ (d : List ℕ) (n e : ℕ) where

@@ -5,14 +5,14 @@ use Rattle.rules.proofs.Prelude.{length-append, List·getD-append, Found, Kept,
 use Rattle.rules.proofs.Prelude.{both-pass, each-same, kept, same-stays, stays-then, stays-answer}
 use Rattle.width.proofs.Laws.{le-append-at}
 use Rattle.part.proofs.Laws.{part-append}
-use Rattle.metadata.specs.declared.Refusal.the-variants.{Empty, Short}
-use Rattle.metadata.specs.declared.Head.{Head}
-use Rattle.metadata.specs.declared.Head.the-variants as head
-use Rattle.metadata.specs.Limits.{limit}
-use Rattle.metadata.specs.Dictionary.{version, sorted, width, count, offset, start, end, region, name, headRules, regionRules, entryRules}
-use Rattle.metadata.specs.Dictionary.{checks, checksWithin, verdict, verdictWithin, nameAt, nameAtWithin}
+use Rattle.dictionary.specs.declared.Refusal.the-variants.{Empty, Short}
+use Rattle.dictionary.specs.declared.Head.{Head}
+use Rattle.dictionary.specs.declared.Head.the-variants as head
+use Rattle.dictionary.specs.Limits.{limit}
+use Rattle.dictionary.specs.Dictionary.{version, sorted, width, count, offset, start, end, region, name, headRules, regionRules, entryRules}
+use Rattle.dictionary.specs.Dictionary.{checks, checksWithin, verdict, verdictWithin, nameAt, nameAtWithin}
+use Rattle.dictionary.proofs.Laws.{count-before, start-before, offset-inside}
 use Rattle.metadata.specs.Steps.{CheckedOf}
-use Rattle.metadata.proofs.Laws.{count-before, start-before, offset-inside}
 use Rattle.metadata.proofs.Means.{good}
 use Rattle.metadata.proofs.Pinned.{refusalBy, by-number, headBy, head-is, checked-pinned}
 

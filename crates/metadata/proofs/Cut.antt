@@ -1,7 +1,7 @@
 -- An accepted dictionary, cut anywhere before its trimmed end, is refused as empty or short at place 0, whatever is asked. Assumes nothing.
 use Rattle.rules.proofs.Prelude.{_≡_, List, [], _∷_, ℕ, _<_, arith, take, drop, length-take, take-append-drop, Kept, accept, first, StopsAs, RefusedAs, pass}
 use Rattle.rules.proofs.Prelude.{let-through, both-pass, passed, cut-stops, stops-first, refused-as}
-use Rattle.metadata.specs.Dictionary.{count, end, headRules, checks, checksWithin, verdict, verdictWithin, nameAt, nameAtWithin}
+use Rattle.dictionary.specs.Dictionary.{count, end, headRules, checks, checksWithin, verdict, verdictWithin, nameAt, nameAtWithin}
 use Rattle.metadata.proofs.Means.{good}
 use Rattle.metadata.proofs.Appended.{lifted, end-same, head-kept}
 

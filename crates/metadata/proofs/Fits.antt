@@ -1,10 +1,10 @@
 -- Every number of the dictionary's answers fits 32 bits: what an accepted one gives, and each refusal's number and place. Assumes nothing.
 use Rattle.rules.proofs.Prelude.{_≡_, List, ℕ, _+_, _≤_, _<_, mul-le-mul-right, arith, Passed, stop, Meant, meant-then, meant-stop, rows-mean, each-means}
 use Rattle.chars.proofs.Laws.{text-le}
-use Rattle.metadata.specs.Limits.{u32Max}
-use Rattle.metadata.specs.Dictionary.{width, count, offset, start, end, region, headRules, regionRules, entryRules, checks, checksWithin}
-use Rattle.metadata.specs.Meaning.{Dictionary}
-use Rattle.metadata.proofs.Laws.{start-before, end-is, region-length}
+use Rattle.width.specs.Limits.{u32Max}
+use Rattle.dictionary.specs.Dictionary.{width, count, offset, start, end, region, headRules, regionRules, entryRules, checks, checksWithin}
+use Rattle.dictionary.specs.Meaning.{Dictionary}
+use Rattle.dictionary.proofs.Laws.{start-before, end-is, region-length}
 
 -- a number and a place of 32 bits
 pub record Small (c p : ℕ) : Type 0 where

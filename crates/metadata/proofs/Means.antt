@@ -10,10 +10,10 @@ use Rattle.utf8.specs.Utf8.Judged.{whole, cut, broken}
 use Rattle.utf8.proofs.Judges.{judged, judges}
 use Rattle.names.specs.Order.{below}
 use Rattle.names.proofs.Laws.{below-before, before-below}
-use Rattle.metadata.specs.Dictionary.{count, offset, end, region, name, cuts, outside, headRules, regionRules, entryRules, checks, checksWithin}
-use Rattle.metadata.specs.Meaning.{Sized, Versioned, Counted, Placed, Headed, Texted, Cut, InRange, GoodEntry, Dictionary, Refusal}
-use Rattle.metadata.specs.Meaning.Refusal.{too-long, empty, other-version, count-cut, start-sum, start-short, first-offset, end-sum, end-short, cut-text, no-text, bad-range, not-above}
-use Rattle.metadata.proofs.Laws.{by-region, foundIn, by-text}
+use Rattle.dictionary.specs.Dictionary.{count, offset, end, region, name, cuts, outside, headRules, regionRules, entryRules, checks, checksWithin}
+use Rattle.dictionary.specs.Meaning.{Sized, Versioned, Counted, Placed, Headed, Texted, Cut, InRange, GoodEntry, Dictionary, Refusal}
+use Rattle.dictionary.specs.Meaning.Refusal.{too-long, empty, other-version, count-cut, start-sum, start-short, first-offset, end-sum, end-short, cut-text, no-text, bad-range, not-above}
+use Rattle.dictionary.proofs.Laws.{by-region, foundIn, by-text}
 
 module _ (d : List ℕ) where
   -- THE HEADER

@@ -10,9 +10,9 @@ use Rattle.chars.proofs.Laws.{chars}
 use Rattle.chars.proofs.Bounds.{bound}
 use Rattle.names.specs.Search.{Rising}
 use Rattle.names.proofs.Search.{rising-all}
-use Rattle.metadata.specs.Dictionary.{sorted, count, offset, end, region, name, checks, nameAt, nameAtWithin}
-use Rattle.metadata.specs.Meaning.{Cut, Dictionary, Refusal, Named, NoEntry}
-use Rattle.metadata.proofs.Laws.{name-part}
+use Rattle.dictionary.specs.Dictionary.{sorted, count, offset, end, region, name, checks, nameAt, nameAtWithin}
+use Rattle.dictionary.specs.Meaning.{Cut, Dictionary, Refusal, Named, NoEntry}
+use Rattle.dictionary.proofs.Laws.{name-part}
 use Rattle.metadata.proofs.Means.{good, checks-mean}
 use Rattle.metadata.proofs.Accepts.{all-pass}
 use Rattle.metadata.proofs.Refuses.{is-due}

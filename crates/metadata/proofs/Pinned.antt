@@ -1,8 +1,12 @@
 -- Each public call's promise fixes its whole answer, and the lent room after it: two answers that meet it are equal. Each answer is read back
 -- out of document 01's numbers, so no two cases have the same. Assumes nothing.
 use Rattle.rules.proofs.Prelude.{_≡_, refl, sym, ap, _∙_, cond, List, ℕ, _+_, eqb, getD, Answer, Found, gives, pass, stop}
-use Rattle.metadata.specs.declared.Refusal.{Refusal}
-use Rattle.metadata.specs.declared.Refusal.the-variants.{TooLong, Empty, Version, Short, Sum, FirstOffset, NotUtf8, Range, NotAbove, CutText}
+use Rattle.dictionary.specs.declared.Refusal.{Refusal}
+use Rattle.dictionary.specs.declared.Refusal.the-variants.{TooLong, Empty, Version, Short, Sum, FirstOffset, NotUtf8, Range, NotAbove, CutText}
+use Rattle.dictionary.specs.declared.Head.{Head}
+use Rattle.dictionary.specs.declared.Head.the-variants as head
+use Rattle.dictionary.specs.Dictionary.{sorted, width, count, offset, start, end, checks}
+use Rattle.dictionary.specs.Answers.{refusalNumber, refusalPlace}
 use Rattle.metadata.specs.declared.Span.{Span}
 use Rattle.metadata.specs.declared.Verdict.{Verdict}
 use Rattle.metadata.specs.declared.Verdict.the-variants as verdict
@@ -10,10 +14,7 @@ use Rattle.metadata.specs.declared.Entry.{Entry}
 use Rattle.metadata.specs.declared.Entry.the-variants as entry
 use Rattle.metadata.specs.declared.Written.{Written}
 use Rattle.metadata.specs.declared.Written.the-variants as written
-use Rattle.metadata.specs.declared.Head.{Head}
-use Rattle.metadata.specs.declared.Head.the-variants as head
-use Rattle.metadata.specs.Dictionary.{sorted, width, count, offset, start, end, checks}
-use Rattle.metadata.specs.Answers.{refusalNumber, refusalPlace, verdictNumbers, entryNumbers, writtenNumbers}
+use Rattle.metadata.specs.Answers.{verdictNumbers, entryNumbers, writtenNumbers}
 use Rattle.metadata.specs.Steps.{CheckedOf, SpanOf}
 use Rattle.metadata.specs.Promises.{CheckPromise, GetPromise, WriteEmptyPromise}
 

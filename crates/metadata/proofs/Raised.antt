@@ -2,10 +2,10 @@
 -- whatever meets a promise under the one or the other; past a limit the answer is 10. A call's own promise is the one under `limit`: so a raise
 -- changes nothing inside the old limit. Assumes nothing.
 use Rattle.rules.proofs.Prelude.{_≡_, sym, _∙_, List, ℕ, _≤_, _<_, arith, le-ltb, length, refuse, first, stop, first-at, stops, refused}
+use Rattle.dictionary.specs.Limits.{limit}
+use Rattle.dictionary.specs.Dictionary.{headRulesWithin, checksWithin, verdictWithin, nameAtWithin}
 use Rattle.metadata.specs.declared.Verdict.{Verdict}
 use Rattle.metadata.specs.declared.Entry.{Entry}
-use Rattle.metadata.specs.Limits.{limit}
-use Rattle.metadata.specs.Dictionary.{headRulesWithin, checksWithin, verdictWithin, nameAtWithin}
 use Rattle.metadata.specs.Answers.{verdictNumbers, entryNumbers}
 use Rattle.metadata.specs.Promises.{CheckPromise}
 use Rattle.metadata.proofs.Pinned.{verdict-injective, entry-injective}

@@ -1,15 +1,15 @@
 -- A dictionary is refused, with a number and a place, exactly when document 01's table says so, its checks taken in their order (the data
--- type `Refusal` of specs/Meaning.antt). Assumes nothing.
+-- type `Refusal` of dictionary/specs/Meaning.antt). Assumes nothing.
 use Rattle.rules.proofs.Prelude.{_≡_, refl, sym, _∙_, _↔_, List, [], _∷_, ℕ, _<_, arith, refuse, first, stop, _&_, surely, first-at, stops, turned-down, refused}
 use Rattle.rules.proofs.Prelude.{each-pass, each-stop, meant-stop}
 use Rattle.chars.specs.Rfc3629.{LongestText, Completed}
 use Rattle.chars.proofs.Truncated.{truncated}
 use Rattle.utf8.specs.Utf8.Judged.{cut, broken}
 use Rattle.names.proofs.Laws.{not-below}
-use Rattle.metadata.specs.Dictionary.{count, end, region, entryRules, checks, verdict, verdictWithin}
-use Rattle.metadata.specs.Meaning.{Headed, Texted, GoodEntry, Refusal}
-use Rattle.metadata.specs.Meaning.Refusal.{too-long, empty, other-version, count-cut, start-sum, start-short, first-offset, end-sum, end-short, cut-text, no-text, bad-range, not-above}
-use Rattle.metadata.proofs.Laws.{by-head}
+use Rattle.dictionary.specs.Dictionary.{count, end, region, entryRules, checks, verdict, verdictWithin}
+use Rattle.dictionary.specs.Meaning.{Headed, Texted, GoodEntry, Refusal}
+use Rattle.dictionary.specs.Meaning.Refusal.{too-long, empty, other-version, count-cut, start-sum, start-short, first-offset, end-sum, end-short, cut-text, no-text, bad-range, not-above}
+use Rattle.dictionary.proofs.Laws.{by-head}
 use Rattle.metadata.proofs.Means.{by-judged, by-entries, out, in-passed, passed-in, below-names, good-passed, checks-mean}
 
 -- the first entry that stops, stops all

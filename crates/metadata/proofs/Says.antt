@@ -1,19 +1,19 @@
--- What the code's own answers say: each case of what a call returns, exactly when, in the words of specs/Meaning.antt. An answer that meets
--- the call's promise is meant. Assumes nothing.
+-- What the code's own answers say: each case of what a call returns, exactly when, in the words of dictionary/specs/Meaning.antt. An answer
+-- that meets the call's promise is meant. Assumes nothing.
 use Rattle.rules.proofs.Prelude.{_≡_, sym, _∙_, true, false, _↔_, List, [], _++_, ℕ, _≤_, _<_, arith, lt-ltb, le-ltb, length, drop, refuse, accept, _<?_}
 use Rattle.rules.proofs.Prelude.{_≤?_, swap, false-true, unless, first-at, first-pass, refused, answered, meant-stop}
 use Rattle.chars.specs.Rfc3629.{Completed}
-use Rattle.metadata.specs.declared.Refusal.{Refusal}
-use Rattle.metadata.specs.declared.Refusal.the-variants.{NotUtf8, CutText}
+use Rattle.dictionary.specs.declared.Refusal.{Refusal}
+use Rattle.dictionary.specs.declared.Refusal.the-variants.{NotUtf8, CutText}
+use Rattle.dictionary.specs.declared.Header.{Header}
+use Rattle.dictionary.specs.declared.Head.the-variants as head
+use Rattle.dictionary.specs.Dictionary.{region, emptyBytes, emptied, roomAfter}
+use Rattle.dictionary.specs.Answers.{refusalNumber, refusalPlace}
+use Rattle.dictionary.specs.Meaning.{Dictionary, Refusal as Due, Named, NoEntry}
 use Rattle.metadata.specs.declared.Span.{Span}
-use Rattle.metadata.specs.declared.Header.{Header}
 use Rattle.metadata.specs.declared.Verdict.the-variants as verdict
 use Rattle.metadata.specs.declared.Entry.the-variants as entry
 use Rattle.metadata.specs.declared.Written.the-variants as written
-use Rattle.metadata.specs.declared.Head.the-variants as head
-use Rattle.metadata.specs.Dictionary.{region, emptyBytes, emptied, roomAfter}
-use Rattle.metadata.specs.Answers.{refusalNumber, refusalPlace}
-use Rattle.metadata.specs.Meaning.{Dictionary, Refusal as Due, Named, NoEntry}
 use Rattle.metadata.specs.Steps.{CheckedOf}
 use Rattle.metadata.specs.Promises.{CheckPromise, GetPromise, WriteEmptyPromise}
 use Rattle.metadata.proofs.Means.{good, checks-mean}

@@ -3,10 +3,10 @@
 use mathlib.Core.Path.{_≡_}
 use mathlib.Core.List.{List}
 use Prim.Native.Nat.{ℕ}
+use Rattle.dictionary.specs.Dictionary.{verdict, nameAt, emptied, roomAfter}
 use Rattle.metadata.specs.declared.Verdict.{Verdict}
 use Rattle.metadata.specs.declared.Entry.{Entry}
 use Rattle.metadata.specs.declared.Written.{Written}
-use Rattle.metadata.specs.Dictionary.{verdict, nameAt, emptied, roomAfter}
 use Rattle.metadata.specs.Answers.{verdictNumbers, entryNumbers, writtenNumbers}
 
 abbrev pub CheckPromise : List ℕ → Verdict → Type 0

@@ -1,34 +1,22 @@
--- Numbers whose highest byte comes first are in the order of their bytes; the lowest first, they tell which bytes are the same. Assumes nothing.
+-- Numbers whose highest byte comes first are in the order of their bytes. Assumes nothing.
 use mathlib.Core.Path.{_≡_, refl, sym, ap, _∙_}
 use mathlib.Core.Bool.{Bool, true, false, cond}
 use mathlib.Core.List.{List}
 use Prim.Native.Nat.{ℕ, zero, suc, _+_, _*_, _≤_, _<_, min}
 use native.Mathlib.Decide.{decLt}
-use native.Mathlib.Nat.{add-zero, add-assoc}
+use native.Mathlib.Nat.{add-zero}
 use native.Mathlib.Omega.{arith}
 use borrow.Author.Tests.{lt-ltb, le-ltb}
-use mir.Syntax.{w8}
-use mir.Val.{Fits}
 use lib.Dec.{ltb}
 use lib.ListN.{length, drop, getD}
 use lib.Seq.{drop-cons}
-use Rattle.rules.proofs.Laws.{and-last}
-use Rattle.width.specs.Width.{le}
+use Rattle.eights.specs.Steps.{be, Alike, Decides}
+use Rattle.eights.proofs.Words.{Octets, be-alike}
 use Rattle.names.specs.declared.Order.{Order}
 use Rattle.names.specs.declared.Order.the-variants.{Less, Equal, Greater}
 use Rattle.names.specs.Order.{compareOf, isLess}
-use Rattle.names.specs.Steps.{be, by, orderOf, Alike, Decides}
+use Rattle.names.specs.Steps.{by, orderOf}
 use Rattle.names.proofs.Laws.{compare-end, compare-short, compare-long}
-
--- four bytes, one by one, and eight as twice four
-module _ (s : List ℕ) (i : ℕ) where
-  pub be-four : be s i 4 ≡ ((getD s i 0 * 256 + getD s (i + 1) 0) * 256 + getD s (i + 2) 0) * 256 + getD s (i + 3) 0
-  unfolding be
-  be-four = rw (add-zero i) (omega arith)
-
-  pub be-eight : be s i 8 ≡ be s i 4 * 4294967296 + be s (i + 4) 4
-  unfolding be
-  be-eight = simp add-assoc (omega arith)
 
 -- the order of two numbers, by cases
 module _ (x y : ℕ) (o : Order) where
@@ -73,10 +61,6 @@ below-by x y e = rw e (sym (go (ltb x y) (ltb y x)))
     go false true = refl
     go false false = refl
 
--- as code knows it of a slice of bytes
-abbrev pub Octets : List ℕ → Type 0
-Octets s = (k : ℕ) → Fits w8 (getD s k 0)
-
 -- TWO NAMES: what is left of them compares by the next byte and what comes after it
 module _ (s t : List ℕ) where
   pub compare-first : (i : ℕ) → i < length s → i < length t
@@ -100,33 +84,9 @@ module _ (s t : List ℕ) where
       go (no u) (yes v) = compare-long s t n (omega arith) (omega arith) ∙ sym (by-greater _ _ Equal v)
       go (no u) (no v) = compare-end s t n (omega arith) (omega arith) ∙ sym (by-same _ _ Equal (omega arith))
 
-  -- the lowest byte first: bytes that are the same, and only they, spell the same number
-  pub alike-le : (n i : ℕ) → i + n ≤ length s → i + n ≤ length t → Alike s t (i + n) → le n (drop i s) ≡ le n (drop i t)
-  unfolding le
-  alike-le zero i p q a = refl
-  alike-le (suc n) i p q a =
-      let e = alike-le n (suc i) (omega arith) (omega arith) (λ k h. a k (omega arith)) in
-      rw (drop-cons s i 0 (omega arith), drop-cons t i 0 (omega arith)) (omega (arith, e, a i (omega arith)))
-
   module _ (f : Octets s) (g : Octets t) where
-    pub le-alike : (n i : ℕ) → i + n ≤ length s → i + n ≤ length t → le n (drop i s) ≡ le n (drop i t) → Alike s t i → Alike s t (i + n)
-    unfolding le
-    le-alike zero i p q e a = rw (add-zero i) a
-    le-alike (suc n) i p q e a =
-        let h = rw (drop-cons s i 0 (omega arith), drop-cons t i 0 (omega arith)) at e in
-        let next = and-last _ i a (omega (arith, h, f i, g i)) in
-        λ k u. le-alike n (suc i) (omega arith) (omega arith) (omega (arith, h, f i, g i)) next k (omega arith)
-
     module _ (i : ℕ) where
-      -- the highest byte first, too
-      pub be-alike : (n : ℕ) → be s i n ≡ be t i n → Alike s t i → Alike s t (i + n)
-      unfolding be
-      be-alike zero e a = rw (add-zero i) a
-      be-alike (suc n) e a =
-          let before = be-alike n (omega (arith, f (i + n), g (i + n))) a in
-          λ k u. and-last _ (i + n) before (omega (arith, f (i + n), g (i + n))) k (omega arith)
-
-      -- THE LAW: and they are in the order of their bytes
+      -- THE LAW: the numbers, the highest byte first, are in the order of the bytes
       be-by : (n : ℕ) → i + n ≤ length s → i + n ≤ length t
           → compareOf (drop i s) (drop i t) ≡ by (be s i n) (be t i n) (compareOf (drop (i + n) s) (drop (i + n) t))
       unfolding be
@@ -145,6 +105,6 @@ module _ (s t : List ℕ) where
       pub end-decides : (p q : ℕ) → p ≡ length s → q ≡ length t → (shared : ℕ) → shared ≡ min p q → Decides s t shared i → be s i 8 ≡ be t i 8
           → compareOf s t ≡ orderOf p q
       end-decides p q e h shared m d w =
-          let a = be-alike 8 w (d .alike) in
+          let a = be-alike s t f g i 8 w (d .alike) in
           let z : i + 8 ≡ min (length s) (length t) = omega (arith, d .last a) in
           rw (e, h) (alike-rest (i + 8) (omega arith) (omega arith) a ∙ compare-lengths (i + 8) z)

@@ -1,10 +1,10 @@
 -- An object layer is accepted over a dictionary, with its field count, the region's start and the trimmed end, exactly when the rules of
--- document 01 hold of both (the record `Layer` of specs/Meaning.antt). Assumes nothing.
+-- document 01 hold of both (the record `Layer` of Meaning.antt of `layer`). Assumes nothing.
 use Rattle.rules.proofs.Prelude.{_≡_, refl, _∙_, _↔_, List, [], _∷_, ℕ, accept, pass, let-through, answered, goes, each-pass}
 use Rattle.metadata.proofs.Accepts as dictionary-accepts
-use Rattle.object.specs.Object.{count, layer, nameRules, offsetRules, checks, verdict, verdictWithin}
-use Rattle.object.specs.Meaning.{Layer}
-use Rattle.object.proofs.Laws.{by-names}
+use Rattle.layer.specs.Object.{count, layer, nameRules, offsetRules, checks, verdict, verdictWithin}
+use Rattle.layer.specs.Meaning.{Layer}
+use Rattle.layer.proofs.Laws.{by-names}
 use Rattle.object.proofs.Means.{head-passed, good-passed, inside-passed, good}
 
 module _ (d o : List ℕ) (n v e : ℕ) where

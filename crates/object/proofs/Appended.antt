@@ -4,22 +4,23 @@ use Rattle.rules.proofs.Prelude.{_≡_, refl, sym, ap, _∙_, Bool, true, false
 use Rattle.rules.proofs.Prelude.{length-append, List·getD-append, Found, Kept, Stays, codeOf, first, each, _orElse_, pass, _&_, false-true, passed, each-same}
 use Rattle.rules.proofs.Prelude.{each-alike, kept, same-stays, stays-same, stays-more, stays-then, stays-answer}
 use Rattle.width.proofs.Laws.{le-append-at}
-use Rattle.metadata.specs.Limits.{limit}
-use Rattle.metadata.specs.Dictionary as dictionary
+use Rattle.dictionary.specs.Limits.{limit}
+use Rattle.dictionary.specs.Dictionary as dictionary
 use Rattle.metadata.proofs.Means as dictionary-means
 use Rattle.metadata.proofs.Appended as dictionary-appended
-use Rattle.metadata.specs.declared.Header.{Header}
-use Rattle.metadata.specs.declared.Refusal as dictionary-refusal
-use Rattle.metadata.specs.declared.Head as dictionary-head
-use Rattle.metadata.specs.declared.Head.the-variants as dictionary-variants
-use Rattle.object.specs.declared.Layer.{Layer}
+use Rattle.dictionary.specs.declared.Header.{Header}
+use Rattle.dictionary.specs.declared.Refusal as dictionary-refusal
+use Rattle.dictionary.specs.declared.Head as dictionary-head
+use Rattle.dictionary.specs.declared.Head.the-variants as dictionary-variants
+use Rattle.layer.specs.declared.Layer.{Layer}
+use Rattle.layer.specs.Object.{basicType, offsetWidth, idWidth, countWidth, count, idsStart, id, offsetsStart, offset, start, end, fieldName}
+use Rattle.layer.specs.Object.{headRules, nameRules, offsetRules, checks, checksWithin, layer, verdict, verdictWithin}
+use Rattle.layer.specs.Answers.{refusalNumber}
+use Rattle.layer.specs.Steps.{LayerOf}
+use Rattle.layer.proofs.Laws.{ids-before, offsets-before, id-inside, offset-inside}
 use Rattle.object.specs.declared.Opening.{Opening}
 use Rattle.object.specs.declared.Opening.the-variants as opening
-use Rattle.object.specs.Object.{basicType, offsetWidth, idWidth, countWidth, count, idsStart, id, offsetsStart, offset, start, end, fieldName}
-use Rattle.object.specs.Object.{headRules, nameRules, offsetRules, checks, checksWithin, layer, verdict, verdictWithin}
-use Rattle.object.specs.Answers.{refusalNumber}
-use Rattle.object.specs.Steps.{LayerOf, OpeningOf}
-use Rattle.object.proofs.Laws.{ids-before, offsets-before, id-inside, offset-inside}
+use Rattle.object.specs.Steps.{OpeningOf}
 use Rattle.object.proofs.Means.{good}
 use Rattle.object.proofs.Pinned.{layer-is, message-by, open-pinned}
 

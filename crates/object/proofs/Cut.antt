@@ -2,10 +2,10 @@
 -- likewise, 21 or 23. Assumes nothing.
 use Rattle.rules.proofs.Prelude.{_≡_, List, [], _∷_, ℕ, _<_, arith, take, drop, length-take, take-append-drop, Kept, accept, first, StopsAs, RefusedAs, pass}
 use Rattle.rules.proofs.Prelude.{let-through, passed, cut-stops, stops-first, stops-next, refused-as}
-use Rattle.metadata.specs.Dictionary as dictionary
+use Rattle.dictionary.specs.Dictionary as dictionary
 use Rattle.metadata.proofs.Cut.{stopped}
-use Rattle.object.specs.Object.{end, headRules, checks, checksWithin, layer, verdict, verdictWithin}
-use Rattle.object.proofs.Laws.{passes}
+use Rattle.layer.specs.Object.{end, headRules, checks, checksWithin, layer, verdict, verdictWithin}
+use Rattle.layer.proofs.Laws.{passes}
 use Rattle.object.proofs.Means.{good}
 use Rattle.object.proofs.Appended.{liftedHere, end-same, head-kept}
 

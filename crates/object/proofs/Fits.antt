@@ -1,10 +1,10 @@
 -- Every number of the layer's answers fits 32 bits: values, and each refusal's number and place. Assumes nothing.
 use Rattle.rules.proofs.Prelude.{_≡_, List, ℕ, _+_, _≤_, _<_, arith, stop, meant-then, meant-map, meant-stop, rows-mean, each-means}
-use Rattle.metadata.specs.Limits.{u32Max}
+use Rattle.width.specs.Limits.{u32Max}
 use Rattle.metadata.proofs.Fits.{Small, checks-fit}
-use Rattle.object.specs.Object.{count, offset, start, end, headRules, nameRules, offsetRules, checks, checksWithin}
-use Rattle.object.specs.Meaning.{Layer}
-use Rattle.object.proofs.Laws.{count-below, start-before, end-is}
+use Rattle.layer.specs.Object.{count, offset, start, end, headRules, nameRules, offsetRules, checks, checksWithin}
+use Rattle.layer.specs.Meaning.{Layer}
+use Rattle.layer.proofs.Laws.{count-below, start-before, end-is}
 
 -- the layer's numbers are the dictionary's, 10 to 19, and 20 to 28, so that none is taken for another answer's
 abbrev Ours : ℕ → ℕ → Type 0

@@ -1,6 +1,3 @@
-pub mod Laws
-pub mod Alike
-pub mod ByIds
 pub mod Means
 pub mod Accepts
 pub mod Refuses

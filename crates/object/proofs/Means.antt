@@ -3,13 +3,13 @@
 use Rattle.rules.proofs.Prelude.{_≡_, refl, sym, _∙_, List, ℕ, _<_, arith, first, each, Passed, pass, _&_, false-true, Meant, by-rows, by-each, meant-then}
 use Rattle.rules.proofs.Prelude.{meant-map, meant-pass}
 use Rattle.names.proofs.Laws.{below-before, before-below}
-use Rattle.metadata.specs.Dictionary as dictionary
-use Rattle.metadata.specs.Meaning as dictionary-meaning
+use Rattle.dictionary.specs.Dictionary as dictionary
+use Rattle.dictionary.specs.Meaning as dictionary-meaning
 use Rattle.metadata.proofs.Means as dictionary-means
-use Rattle.object.specs.Object.{count, start, end, headRules, nameRules, offsetRules, checks, checksWithin}
-use Rattle.object.specs.Meaning.{Sized, Typed, Counted, Placed, Headed, GoodName, Named, InRegion, Layer, Refusal}
-use Rattle.object.specs.Meaning.Refusal.{of-dictionary, too-long, empty, other-type, count-cut, offsets-sum, start-sum, start-short}
-use Rattle.object.specs.Meaning.Refusal.{end-sum, end-short, no-entry, not-above, past-region, empty-child}
+use Rattle.layer.specs.Object.{count, start, end, headRules, nameRules, offsetRules, checks, checksWithin}
+use Rattle.layer.specs.Meaning.{Sized, Typed, Counted, Placed, Headed, GoodName, Named, InRegion, Layer, Refusal}
+use Rattle.layer.specs.Meaning.Refusal.{of-dictionary, too-long, empty, other-type, count-cut, offsets-sum, start-sum, start-short}
+use Rattle.layer.specs.Meaning.Refusal.{end-sum, end-short, no-entry, not-above, past-region, empty-child}
 
 module _ (d o : List ℕ) where
   -- THE HEADER

@@ -1,22 +1,24 @@
 -- Each public call's promise fixes its whole answer: two answers that meet it are equal. Each answer is read back
 -- out of document 01's numbers, so no two cases have the same. Assumes nothing.
 use Rattle.rules.proofs.Prelude.{_≡_, refl, sym, ap, ap₂, _∙_, cond, List, [], _∷_, ℕ, arith, eqb, Answer, gives}
-use Rattle.metadata.specs.declared.Head.the-variants as dictionary-head
+use Rattle.dictionary.specs.declared.Head.the-variants as dictionary-head
 use Rattle.metadata.proofs.Pinned.{refusalBy as dictionaryBy, refusal-back as dictionary-back, by-back, checked-pinned}
-use Rattle.object.specs.declared.Refusal.{Refusal}
-use Rattle.object.specs.declared.Refusal.the-variants.{Dictionary, TooLong, Empty, BasicType, Short, Sum, NoSuchEntry, NotAbove, Offset, EmptyChild}
+use Rattle.layer.specs.declared.Refusal.{Refusal}
+use Rattle.layer.specs.declared.Refusal.the-variants.{Dictionary, TooLong, Empty, BasicType, Short, Sum, NoSuchEntry, NotAbove, Offset, EmptyChild}
+use Rattle.layer.specs.declared.Layer.{Layer}
+use Rattle.layer.specs.declared.Head.{Head}
+use Rattle.layer.specs.declared.Head.the-variants as head
+use Rattle.layer.specs.Object.{offsetWidth, idWidth, count, idsStart, offsetsStart, start, end}
+use Rattle.layer.specs.Answers.{refusalNumber, refusalPlace}
+use Rattle.layer.specs.Steps.{LayerOf}
 use Rattle.object.specs.declared.Verdict.{Verdict}
 use Rattle.object.specs.declared.Verdict.the-variants as verdict
-use Rattle.object.specs.declared.Layer.{Layer}
-use Rattle.object.specs.declared.Head.{Head}
-use Rattle.object.specs.declared.Head.the-variants as head
 use Rattle.object.specs.declared.Message.{Message}
 use Rattle.object.specs.declared.Opening.{Opening}
 use Rattle.object.specs.declared.Opening.the-variants as opening
-use Rattle.object.specs.Object.{offsetWidth, idWidth, count, idsStart, offsetsStart, start, end}
-use Rattle.object.specs.Answers.{refusalNumber, refusalPlace, verdictNumbers}
+use Rattle.object.specs.Answers.{verdictNumbers}
 use Rattle.object.specs.Promises.{CheckPromise}
-use Rattle.object.specs.Steps.{LayerOf, CheckedOf, MessageOf, OpeningOf}
+use Rattle.object.specs.Steps.{CheckedOf, MessageOf, OpeningOf}
 
 -- REFUSALS: number and place, read back; `other` where the number is none of theirs
 unfoldable pub refusalBy : {A : Type 0} → (Refusal → A) → A → ℕ → ℕ → A

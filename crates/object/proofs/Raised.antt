@@ -1,10 +1,10 @@
 -- What the limit decides (document 02, request d): an object over a dictionary, both within two limits, gets the same answer under both; past a
 -- limit the answer is 20, where the dictionary is accepted. `check`'s own promise is the one under `limit`. Assumes nothing.
 use Rattle.rules.proofs.Prelude.{_≡_, sym, _∙_, List, ℕ, _≤_, _<_, le-ltb, length, refuse, first, pass, stop, first-at, stops, goes, refused}
-use Rattle.metadata.specs.Dictionary as dictionary
+use Rattle.dictionary.specs.Dictionary as dictionary
 use Rattle.metadata.proofs.Raised as dictionary-raised
+use Rattle.layer.specs.Object.{headRulesWithin, checksWithin, verdictWithin}
 use Rattle.object.specs.declared.Verdict.{Verdict}
-use Rattle.object.specs.Object.{headRulesWithin, checksWithin, verdictWithin}
 use Rattle.object.specs.Answers.{verdictNumbers}
 use Rattle.object.proofs.Pinned.{verdict-injective}
 

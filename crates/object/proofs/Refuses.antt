@@ -1,16 +1,16 @@
 -- An object layer is refused, with a number and a place, exactly when document 01's table says so, the dictionary's checks and then its own
--- taken in their order (the data type `Refusal` of specs/Meaning.antt). Assumes nothing.
+-- taken in their order (the data type `Refusal` of Meaning.antt of `layer`). Assumes nothing.
 use Rattle.rules.proofs.Prelude.{_≡_, refl, _∙_, _↔_, List, [], _∷_, ℕ, _<_, arith, refuse, first, pass, stop, _&_, first-at, stops, goes, turned-down}
 use Rattle.rules.proofs.Prelude.{refused, each-pass, each-stop, meant-stop}
 use Rattle.names.proofs.Laws.{not-below}
-use Rattle.metadata.specs.Dictionary as dictionary
+use Rattle.dictionary.specs.Dictionary as dictionary
 use Rattle.metadata.proofs.Accepts as dictionary-accepts
 use Rattle.metadata.proofs.Refuses as dictionary-refuses
-use Rattle.object.specs.Object.{count, start, end, nameRules, offsetRules, checks, verdict, verdictWithin}
-use Rattle.object.specs.Meaning.{Counted, Placed, Headed, GoodName, Named, InRegion, Refusal}
-use Rattle.object.specs.Meaning.Refusal.{of-dictionary, too-long, empty, other-type, count-cut, offsets-sum, start-sum, start-short}
-use Rattle.object.specs.Meaning.Refusal.{end-sum, end-short, no-entry, not-above, past-region, empty-child}
-use Rattle.object.proofs.Laws.{by-dictionary, by-head, by-names}
+use Rattle.layer.specs.Object.{count, start, end, nameRules, offsetRules, checks, verdict, verdictWithin}
+use Rattle.layer.specs.Meaning.{Counted, Placed, Headed, GoodName, Named, InRegion, Refusal}
+use Rattle.layer.specs.Meaning.Refusal.{of-dictionary, too-long, empty, other-type, count-cut, offsets-sum, start-sum, start-short}
+use Rattle.layer.specs.Meaning.Refusal.{end-sum, end-short, no-entry, not-above, past-region, empty-child}
+use Rattle.layer.proofs.Laws.{by-dictionary, by-head, by-names}
 use Rattle.object.proofs.Means.{head-passed, good-passed, inside-passed, checks-mean}
 
 module _ (d o : List ℕ) where

@@ -1,12 +1,12 @@
--- What the code's own answers say: each case of what a call returns, exactly when, in the words of specs/Meaning.antt. An answer that meets
+-- What the code's own answers say: each case of what a call returns, exactly when, in the words of Meaning.antt of `layer`. An answer that meets
 -- the call's promise is meant. Assumes nothing.
 use Rattle.rules.proofs.Prelude.{_↔_, List, ℕ, swap, meant-stop}
-use Rattle.object.specs.declared.Refusal.{Refusal}
+use Rattle.layer.specs.declared.Refusal.{Refusal}
+use Rattle.layer.specs.Answers.{refusalNumber, refusalPlace}
+use Rattle.layer.specs.Meaning.{Layer, Refusal as Due}
 use Rattle.object.specs.declared.Message.{Message}
 use Rattle.object.specs.declared.Verdict.the-variants as verdict
 use Rattle.object.specs.declared.Opening.the-variants as opening
-use Rattle.object.specs.Answers.{refusalNumber, refusalPlace}
-use Rattle.object.specs.Meaning.{Layer, Refusal as Due}
 use Rattle.object.specs.Promises.{CheckPromise}
 use Rattle.object.specs.Steps.{OpeningOf}
 use Rattle.object.proofs.Means.{good, checks-mean}

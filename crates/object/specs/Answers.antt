@@ -1,40 +1,9 @@
 -- Document 01's number, values and place for each case of the answers. Assumes nothing.
 use mathlib.Core.List.{[], _∷_}
-use Prim.Native.Nat.{ℕ}
-use Rattle.rules.specs.Rules.{Answer, refuse, accept}
-use Rattle.metadata.specs.Answers as dictionary
-use Rattle.object.specs.declared.Refusal.{Refusal}
-use Rattle.object.specs.declared.Refusal.the-variants.{Dictionary, TooLong, Empty, BasicType, Short, Sum, NoSuchEntry, NotAbove, Offset, EmptyChild}
+use Rattle.rules.specs.Rules.{Answer, accept}
+use Rattle.layer.specs.Answers.{refused}
 use Rattle.object.specs.declared.Verdict.{Verdict}
 use Rattle.object.specs.declared.Verdict.the-variants as verdict
-
--- number and place of each refusal; a dictionary's keeps its own
-abbrev pub refusalNumber : Refusal → ℕ
-refusalNumber (Dictionary r) = dictionary.refusalNumber r
-refusalNumber TooLong = 20
-refusalNumber Empty = 21
-refusalNumber BasicType = 22
-refusalNumber Short = 23
-refusalNumber Sum = 24
-refusalNumber (NoSuchEntry k) = 25
-refusalNumber (NotAbove k) = 26
-refusalNumber (Offset k) = 27
-refusalNumber (EmptyChild k) = 28
-
-abbrev pub refusalPlace : Refusal → ℕ
-refusalPlace (Dictionary r) = dictionary.refusalPlace r
-refusalPlace TooLong = 0
-refusalPlace Empty = 0
-refusalPlace BasicType = 0
-refusalPlace Short = 0
-refusalPlace Sum = 0
-refusalPlace (NoSuchEntry k) = k
-refusalPlace (NotAbove k) = k
-refusalPlace (Offset k) = k
-refusalPlace (EmptyChild k) = k
-
-abbrev pub refused : Refusal → Answer
-refused r = refuse (refusalNumber r) (refusalPlace r)
 
 abbrev pub verdictNumbers : Verdict → Answer
 verdictNumbers (verdict.Refused r) = refused r

@@ -1,5 +1,3 @@
-pub mod Object
-pub mod Meaning
 pub mod Answers
 pub mod Promises
 pub mod Steps

@@ -3,8 +3,8 @@
 use mathlib.Core.Path.{_≡_}
 use mathlib.Core.List.{List}
 use Prim.Native.Nat.{ℕ}
+use Rattle.layer.specs.Object.{verdict}
 use Rattle.object.specs.declared.Verdict.{Verdict}
-use Rattle.object.specs.Object.{verdict}
 use Rattle.object.specs.Answers.{verdictNumbers}
 
 abbrev pub CheckPromise : List ℕ → List ℕ → Verdict → Type 0

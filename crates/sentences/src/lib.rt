@@ -1,7 +1,10 @@
 // Each answer as a sentence to standard output: what is here promises safety only.
 ghost use Prim.Native.Nat.{_+_, _≤_};
 ghost use lib.ListN.{length};
-ghost use Rattle.object.specs.Steps.{Over};
+ghost use Rattle.fields.specs.Steps.{Over};
+
+mod kinds;
+
 use ask::Answer;
 use print::quoted;
 use print::room::ROOM;
@@ -13,7 +16,7 @@ use print::write_hex;
 // That one of the two is longer than any that the library reads.
 fn above_limit(what: &[u8]) -> bool {
     tell(what);
-    say(b" is longer than ", metadata::LIMIT);
+    say(b" is longer than ", dictionary::LIMIT);
     tell(b" bytes")
 }
 
@@ -243,7 +246,7 @@ fn child(bytes: &[u8]) {
 }
 
 // A field of a listing over a dictionary that was checked: nothing is checked again.
-fn field(dict: &[u8], h: metadata::Header, object: &[u8], id: usize, start: usize, span: usize)
+fn field(dict: &[u8], h: dictionary::Header, object: &[u8], id: usize, start: usize, span: usize)
     requires { ⌜ Over (now dict) h ⌝ }
 {
     tell(b"  ");
@@ -264,8 +267,8 @@ fn field(dict: &[u8], h: metadata::Header, object: &[u8], id: usize, start: usiz
 fn fields(dict: &[u8], object: &[u8], words: &[u32]) {
     let head = metadata::checked(dict);
     match head {
-        metadata::Head::Refused(_) => {}
-        metadata::Head::Good(h) => {
+        dictionary::Head::Refused(_) => {}
+        dictionary::Head::Good(h) => {
             let mut at: usize = 0;
             while 3 <= words.len() - at {
                 field(

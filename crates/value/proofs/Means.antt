@@ -2,7 +2,7 @@
 use Rattle.rules.proofs.Prelude.{_≡_, refl, sym, ap, _∙_, _↔_, List, ℕ, _≤_, _<_, arith, length, getD, Found, first, pass, stop}
 use Rattle.rules.proofs.Prelude.{_&_, true, false-true, decLt, Meant, by-rows, meant-pass, first-at, first-pass}
 use Rattle.rules.proofs.Laws.Meant.{all-pass, one-stops}
-use Rattle.metadata.specs.Limits.{u32Max}
+use Rattle.width.specs.Limits.{u32Max}
 use Rattle.layout.specs.declared.Widths.{Widths}
 use Rattle.layout.specs.Layout as layout
 use Rattle.value.specs.declared.Header.{Header}

@@ -10,7 +10,7 @@ use Rattle.rules.specs.Rules.{Rule, Found, first}
 use Rattle.rules.specs.Rules.Found.{pass, stop}
 use Rattle.rules.specs.Rules.Rule.{_⇒_at_}
 use Rattle.rules.specs.Rules.Test.{_<?_, _≤?_, is, _and_}
-use Rattle.metadata.specs.Limits.{u32Max}
+use Rattle.width.specs.Limits.{u32Max}
 use Rattle.layout.specs.declared.Widths.{Widths}
 use Rattle.layout.specs.Layout as layout
 use Rattle.value.specs.declared.Header.{Header}

@@ -5,7 +5,7 @@ use mathlib.Core.Bool.{true}
 use mathlib.Core.List.{List}
 use Prim.Native.Nat.{ℕ, _+_, _≤_, _<_}
 use lib.ListN.{length, getD}
-use Rattle.metadata.specs.Limits.{u32Max}
+use Rattle.width.specs.Limits.{u32Max}
 use Rattle.layout.specs.declared.Widths.{Widths}
 use Rattle.layout.specs.Layout as layout
 use Rattle.value.specs.declared.Header.{Header}

@@ -98,7 +98,7 @@ pub fn header_of(first: u8) -> Header
 fn within(len: usize, n: usize) -> Length
     ensures { λ r. ⌜ r ≡ sized len n ⌝ }
 {
-    if metadata::U32_MAX < n {
+    if width::U32_MAX < n {
         return Length::Sum;
     }
     if len < n {

@@ -3,6 +3,9 @@ ghost use Prim.Native.Nat.{_+_, _≤_};
 ghost use lib.ListN.{length};
 ghost use Rattle.width.specs.Promises.{WidePromise, UnpackPromise, PackPromise};
 
+// The largest number of 32 bits: sums are worked in 64 bits and held to it.
+pub const U32_MAX: usize = 0xFFFF_FFFF;
+
 // A byte as a number, with its bound.
 pub fn wide(x: u8) -> usize
     ensures { λ r. ⌜ WidePromise x r ⌝ }

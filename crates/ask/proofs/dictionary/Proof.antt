@@ -2,7 +2,7 @@
 use mathlib.Core.Path.{_∙_}
 use native.Mathlib.Omega.{arith}
 use borrow.Author.Needs.{needs}
-use Rattle.metadata.specs.Dictionary.{verdict}
+use Rattle.dictionary.specs.Dictionary.{verdict}
 use Rattle.strip.specs.Shapes.{dictionaryShape}
 use Rattle.lichenhusk.proofs.Carries.{carried}
 use Rattle.lichenhusk.proofs.Tells.{dictionary-said}

@@ -2,7 +2,7 @@
 use mathlib.Core.Path.{_∙_}
 use native.Mathlib.Omega.{arith}
 use borrow.Author.Needs.{needs}
-use Rattle.object.specs.Object.{verdict}
+use Rattle.layer.specs.Object.{verdict}
 use Rattle.strip.specs.Shapes.{layerShape}
 use Rattle.lichenhusk.proofs.Carries.{carried}
 use Rattle.lichenhusk.proofs.Tells.{layer-said}

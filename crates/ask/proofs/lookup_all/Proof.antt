@@ -2,7 +2,7 @@
 use mathlib.Core.Path.{_∙_}
 use native.Mathlib.Omega.{arith}
 use borrow.Author.Needs.{needs}
-use Rattle.lookup.specs.Many.{lookups}
+use Rattle.many.specs.Many.{lookups}
 use Rattle.strip.specs.Shapes.{layerShape}
 use Rattle.lichenhusk.specs.Strip.{filledAfter}
 use Rattle.lichenhusk.proofs.Carries.{carried}

@@ -2,7 +2,7 @@
 use mathlib.Core.Path.{_∙_}
 use native.Mathlib.Omega.{arith}
 use borrow.Author.Needs.{needs}
-use Rattle.metadata.specs.Dictionary.{nameAt}
+use Rattle.dictionary.specs.Dictionary.{nameAt}
 use Rattle.strip.specs.Shapes.{nameShape}
 use Rattle.lichenhusk.proofs.Carries.{carried}
 use Rattle.lichenhusk.proofs.Tells.{name-said}

@@ -1,6 +1,6 @@
 -- `layout::read` meets its contract: each refusal is the first row that holds. The limit is opened here. Assumes nothing.
 use Rattle.rules.proofs.Prelude.{arith, needs, first-at}
-use Rattle.metadata.specs.Limits.{u32Max}
+use Rattle.width.specs.Limits.{u32Max}
 use Rattle.layout.proofs.read.Statement.{statement}
 use Rattle.layout.proofs.read.Tie as tie
 

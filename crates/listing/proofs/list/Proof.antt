@@ -2,11 +2,12 @@
 use Rattle.rules.proofs.Prelude.{_≡_, refl, sym, ap, _∙_, Bool, true, false, _&&_, ltb, ltb-true, ltb-false, List, [], _++_, ℕ, _*_, _≤_, _<_, arith, needs}
 use Rattle.rules.proofs.Prelude.{length, drop, first, each, refused, answered, stops, goes, stop, pass, first-at, first-pass, false-true, not-true, not-false}
 use Rattle.rules.proofs.Laws.{both}
-use Rattle.metadata.specs.Limits.{u32Max}
-use Rattle.object.specs.declared.Layer.{Layer}
-use Rattle.object.specs.Object.{count, checks, layer}
-use Rattle.object.specs.Steps.{LayerOf, MessageOf}
-use Rattle.object.proofs.Laws.{count-below, in-region}
+use Rattle.width.specs.Limits.{u32Max}
+use Rattle.layer.specs.declared.Layer.{Layer}
+use Rattle.layer.specs.Object.{count, checks, layer}
+use Rattle.layer.specs.Steps.{LayerOf}
+use Rattle.layer.proofs.Laws.{count-below, in-region}
+use Rattle.object.specs.Steps.{MessageOf}
 use Rattle.listing.specs.declared.Measured.{Measured}
 use Rattle.listing.specs.declared.Measured.the-variants as measured
 use Rattle.listing.specs.declared.Listing.{Listing}

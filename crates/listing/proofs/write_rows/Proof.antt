@@ -1,10 +1,10 @@
 -- `listing::write_rows` meets its contract: the loop keeps the rows before k, and after them the words as they were. Assumes nothing.
 use Rattle.rules.proofs.Prelude.{_≡_, _∙_, ap, refl, List, ℕ, _++_, _+_, _-_, _*_, _≤_, arith, length, drop, length-set}
 use Rattle.rules.proofs.Rows.{rows-none}
-use Rattle.metadata.specs.Limits.{u32Max}
+use Rattle.width.specs.Limits.{u32Max}
 use Rattle.value.specs.Encoding.{bytesOf}
-use Rattle.object.specs.declared.Layer.{Layer}
-use Rattle.object.specs.Object.{count as countOf}
+use Rattle.layer.specs.declared.Layer.{Layer}
+use Rattle.layer.specs.Object.{count as countOf}
 use Rattle.listing.specs.Words.{span, rows}
 use Rattle.listing.proofs.Laws.{span-inside}
 use Rattle.listing.proofs.Rows.{turn}

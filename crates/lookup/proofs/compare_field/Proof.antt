@@ -1,7 +1,7 @@
 -- `lookup::compare_field` meets its contract: the name of the field is the dictionary's at its id. Assumes nothing.
 use Rattle.rules.proofs.Prelude.{_∙_, arith, needs}
-use Rattle.object.specs.Object.{fieldName}
-use Rattle.object.proofs.Laws.{entry-of}
+use Rattle.layer.specs.Object.{fieldName}
+use Rattle.layer.proofs.Laws.{entry-of}
 use Rattle.lookup.proofs.compare_field.Statement.{statement}
 use Rattle.lookup.proofs.compare_field.Tie as tie
 

@@ -1,8 +1,8 @@
 -- `lookup::find` meets its contract: halving keeps the query between what is below and what is above it. Assumes nothing.
 use Rattle.rules.proofs.Prelude.{sym, _∙_, ℕ, _+_, _-_, _/_, _≤_, arith, needs}
 use Rattle.names.proofs.Search.{Between, between-less, between-greater, between-equal, between-none}
-use Rattle.object.specs.Object.{fieldName, count as countOf}
-use Rattle.object.proofs.Laws.{names-rise}
+use Rattle.layer.specs.Object.{fieldName, count as countOf}
+use Rattle.layer.proofs.Laws.{names-rise}
 use Rattle.lookup.proofs.FromAbove.{between}
 use Rattle.lookup.proofs.find.Statement.{statement}
 use Rattle.lookup.proofs.find.Tie as tie

@@ -1,6 +1,6 @@
 -- `lookup::get` meets its contract: the dictionary's refusal, or the lookup over it. Assumes nothing.
 use Rattle.rules.proofs.Prelude.{sym, needs, refused}
-use Rattle.object.proofs.Laws.{by-dictionary}
+use Rattle.layer.proofs.Laws.{by-dictionary}
 use Rattle.lookup.specs.ByName.{lookupWithin}
 use Rattle.lookup.proofs.get.Statement.{statement}
 use Rattle.lookup.proofs.get.Tie as tie

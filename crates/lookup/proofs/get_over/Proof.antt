@@ -3,9 +3,9 @@ use Rattle.rules.proofs.Prelude.{_≡_, sym, ap, _∙_, _<_, arith, needs, refu
 use Rattle.names.specs.Search.{seek}
 use Rattle.names.specs.Search.Sought.{here}
 use Rattle.names.proofs.Search.{seek-at}
-use Rattle.object.specs.Object.{count, fieldName}
+use Rattle.layer.specs.Object.{count, fieldName}
+use Rattle.layer.proofs.Laws.{in-region, end-is}
 use Rattle.object.specs.Steps.{Opened}
-use Rattle.object.proofs.Laws.{in-region, end-is}
 use Rattle.lookup.specs.ByName.{found, lookupWithin}
 use Rattle.lookup.specs.Steps.{soughtOf}
 use Rattle.lookup.proofs.FromAbove.{none-above}

@@ -1,6 +1,6 @@
 -- `metadata::check` meets its contract: the numbers of the checked header. Assumes nothing.
 use Rattle.rules.proofs.Prelude.{sym, needs, refused}
-use Rattle.metadata.specs.Dictionary.{verdictWithin}
+use Rattle.dictionary.specs.Dictionary.{verdictWithin}
 use Rattle.metadata.proofs.Accepts.{accepts}
 use Rattle.metadata.proofs.Says.{checked-good}
 use Rattle.metadata.proofs.check.Statement.{statement}

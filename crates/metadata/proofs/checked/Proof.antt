@@ -1,7 +1,7 @@
 -- `metadata::checked` meets its contract: the header's checks, then those of the region. Assumes nothing.
 use Rattle.rules.proofs.Prelude.{sym, ap, _∙_, needs}
-use Rattle.metadata.specs.Steps.{foundOf}
-use Rattle.metadata.proofs.Laws.{by-head}
+use Rattle.dictionary.proofs.Laws.{by-head}
+use Rattle.entries.specs.Steps.{foundOf}
 use Rattle.metadata.proofs.checked.Statement.{statement}
 use Rattle.metadata.proofs.checked.Tie as tie
 

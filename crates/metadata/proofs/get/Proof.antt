@@ -1,6 +1,6 @@
 -- `metadata::get` meets its contract: the dictionary's refusal, then 31, then the span. Assumes nothing.
 use Rattle.rules.proofs.Prelude.{sym, _∙_, _≤_, _<_, arith, needs, refused, answered, stops, goes, first-at, first-pass}
-use Rattle.metadata.specs.Dictionary.{count, nameAtWithin}
+use Rattle.dictionary.specs.Dictionary.{count, nameAtWithin}
 use Rattle.metadata.proofs.get.Statement.{statement}
 use Rattle.metadata.proofs.get.Tie as tie
 

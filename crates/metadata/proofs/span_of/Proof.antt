@@ -1,6 +1,6 @@
 -- `metadata::span_of` meets its contract: a checked dictionary's offsets do not fall and stay in the region. Assumes nothing.
 use Rattle.rules.proofs.Prelude.{arith, needs}
-use Rattle.metadata.proofs.Laws.{end-is, region-length, name-part}
+use Rattle.dictionary.proofs.Laws.{end-is, region-length, name-part}
 use Rattle.metadata.proofs.Means.{good}
 use Rattle.metadata.proofs.span_of.Statement.{statement}
 use Rattle.metadata.proofs.span_of.Tie as tie

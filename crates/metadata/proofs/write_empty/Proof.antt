@@ -1,6 +1,6 @@
 -- `metadata::write_empty` meets its contract: three bytes are set, or none. Assumes nothing.
 use Rattle.rules.proofs.Prelude.{sym, _∙_, _≤_, arith, needs, length, length-set, sets-eq}
-use Rattle.metadata.specs.Dictionary.{emptyBytes}
+use Rattle.dictionary.specs.Dictionary.{emptyBytes}
 use Rattle.metadata.proofs.Says.{too-small, enough}
 use Rattle.metadata.proofs.write_empty.Statement.{statement}
 use Rattle.metadata.proofs.write_empty.Tie as tie

@@ -2,7 +2,8 @@
 use mathlib.Core.Path.{sym, _∙_}
 use native.Mathlib.Omega.{arith}
 use borrow.Author.Needs.{needs}
-use Rattle.names.proofs.Words.{be-alike, word-decides, end-decides}
+use Rattle.eights.proofs.Words.{be-alike}
+use Rattle.names.proofs.Words.{word-decides, end-decides}
 use Rattle.names.proofs.compare.Statement.{statement}
 use Rattle.names.proofs.compare.Tie as tie
 

@@ -2,8 +2,9 @@
 use native.Mathlib.Omega.{arith}
 use borrow.Author.Needs.{needs}
 use lib.ListN.{length}
+use Rattle.eights.proofs.Words.{be-alike}
 use Rattle.names.specs.Order.{below}
-use Rattle.names.proofs.Words.{be-alike, below-by, word-decides, end-decides}
+use Rattle.names.proofs.Words.{below-by, word-decides, end-decides}
 use Rattle.names.proofs.is_below.Statement.{statement}
 use Rattle.names.proofs.is_below.Tie as tie
 

@@ -1,6 +1,6 @@
 -- `object::check` meets its contract: the numbers of the opened layer. Assumes nothing.
 use Rattle.rules.proofs.Prelude.{sym, needs, refused, answered}
-use Rattle.object.specs.Object.{verdictWithin}
+use Rattle.layer.specs.Object.{verdictWithin}
 use Rattle.object.proofs.check.Statement.{statement}
 use Rattle.object.proofs.check.Tie as tie
 

@@ -1,6 +1,6 @@
 -- `object::open` meets its contract: the dictionary's checks, then the layer's. Assumes nothing.
 use borrow.Author.Needs.{needs}
-use Rattle.object.proofs.Laws.{by-dictionary}
+use Rattle.layer.proofs.Laws.{by-dictionary}
 use Rattle.object.proofs.open.Statement.{statement}
 use Rattle.object.proofs.open.Tie as tie
 

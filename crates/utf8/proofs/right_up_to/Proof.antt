@@ -4,8 +4,9 @@ use Prim.Native.Nat.{_+_, _-_, _≤_}
 use native.Mathlib.Omega.{arith}
 use borrow.Author.Tests.{not-false}
 use lib.ListN.{length, getD}
-use Rattle.utf8.specs.Steps.{AtMost, RightAt, Rights}
-use Rattle.utf8.proofs.Laws.{join}
+use Rattle.plain.specs.Steps.{AtMost}
+use Rattle.plain.proofs.Laws.{join}
+use Rattle.blocks.specs.Steps.{RightAt, Rights}
 use Rattle.utf8.proofs.right_up_to.Statement.{statement}
 use Rattle.utf8.proofs.right_up_to.Tie as tie
 

@@ -3,9 +3,10 @@ use mathlib.Core.Path.{sym, _∙_}
 use Prim.Native.Nat.{_-_, _+_}
 use native.Mathlib.Omega.{arith}
 use lib.ListN.{length}
-use Rattle.utf8.specs.Steps.{Reached}
 use Rattle.chars.proofs.Laws.{char-end}
-use Rattle.utf8.proofs.Laws.{text-stop, text-go}
+use Rattle.plain.specs.Steps.{Reached}
+use Rattle.plain.proofs.Laws.{text-go}
+use Rattle.utf8.proofs.Laws.{text-stop}
 use Rattle.utf8.proofs.valid_len.Statement.{statement}
 use Rattle.utf8.proofs.valid_len.Tie as tie
 

@@ -1,6 +1,6 @@
 -- `value::within` meets its contract: each refusal is the first row that holds. The limit is opened here. Assumes nothing.
 use Rattle.rules.proofs.Prelude.{arith, first-at, first-pass}
-use Rattle.metadata.specs.Limits.{u32Max}
+use Rattle.width.specs.Limits.{u32Max}
 use Rattle.value.specs.Encoding.{endRules, caseOf}
 use Rattle.value.proofs.within.Statement.{statement}
 use Rattle.value.proofs.within.Tie as tie

@@ -1,0 +1,5 @@
+pub mod Limits
+pub mod Dictionary
+pub mod Meaning
+pub mod Answers
+pub mod Steps

@@ -1,0 +1,14 @@
+-- `keys::padded_half` meets its contract: four bytes, one by one. Assumes nothing.
+use native.Mathlib.Omega.{arith}
+use borrow.Author.Needs.{needs}
+use Rattle.eights.proofs.Words.{be-four}
+use Rattle.keys.proofs.padded_half.Statement.{statement}
+use Rattle.keys.proofs.padded_half.Tie as tie
+
+pub padded-half-spec : {M : Type 1} → statement M
+padded-half-spec =
+    tie.close
+    (tie.spec
+    (λ c κs. search needs) (λ c. search needs) (λ c. search needs) (λ c κs. search needs) (λ c. search needs) (λ c. search needs) (λ c. search needs)
+    (λ c κs. search needs) (λ c. search needs) (λ c. search needs) (λ c. search needs) (λ c κs. search needs) (λ c. search needs)
+    (λ c. let a = c .before .before .before .before .before .args in (omega (arith, be-four (a .s .now) (a .at)), omega arith)))  -- returns
