@@ -4,7 +4,9 @@
 //
 // The list has one mark a case, 100 to a line, and the cases are counted as the script counts them; it says which they are. So a case's
 // number, taken apart, is its bytes. The mark is a digit, the length of the longest text; or a letter, `a` for 0, where it is cut there.
-use libc::STDOUT_FILENO;
+use print::say;
+use print::tell;
+use print::write_hex;
 ghost use Prim.Native.Nat.{_≤_, _<_};
 ghost use lib.ListN.{length};
 
@@ -224,28 +226,12 @@ fn run(list: &[u8]) -> Tally
     }
 }
 
-fn wide(x: u8) -> u64 {
-    x as u64
-}
-
-// The bytes of `s` in hex, a space after each.
-fn write_hex(s: &[u8]) {
-    for i in 0..s.len() {
-        io::print_hex(STDOUT_FILENO, wide(s[i]), 2);
-        io::write_all(STDOUT_FILENO, b" ");
-    }
-}
-
-fn say(n: usize, words: &[u8]) {
-    io::print_decimal(STDOUT_FILENO, n as u64);
-    io::write_all(STDOUT_FILENO, words);
-}
-
 fn report(list: &[u8], t: Tally)
     requires { ⌜ t .first < 225224 ⌝ }
 {
-    say(t.compared, b" cases compared, ");
-    say(t.differ, b" differ\n");
+    say(b"", t.compared);
+    say(b" cases compared, ", t.differ);
+    tell(b" differ\n");
     if t.differ == 0 {
         return;
     }
@@ -253,13 +239,13 @@ fn report(list: &[u8], t: Tally)
     let case = case_of(number);
     let bytes = case.bytes;
     let len = case.len;
-    io::write_all(STDOUT_FILENO, b"the first is ");
+    tell(b"the first is");
     write_hex(&bytes[0..len]);
-    io::write_all(STDOUT_FILENO, b"with ");
-    io::write_all(STDOUT_FILENO, &[answer(number)]);
-    io::write_all(STDOUT_FILENO, b" found and ");
-    io::write_all(STDOUT_FILENO, &[listed(list, number)]);
-    io::write_all(STDOUT_FILENO, b" listed\n");
+    tell(b" with ");
+    tell(&[answer(number)]);
+    tell(b" found and ");
+    tell(&[listed(list, number)]);
+    tell(b" listed\n");
 }
 
 fn main() {
@@ -274,7 +260,8 @@ fn main() {
     let n = io::read_full(fd, &mut text);
     libc::close(fd);
     if n != LIST {
-        say(n, b" bytes are not a whole list\n");
+        say(b"", n);
+        tell(b" bytes are not a whole list\n");
         return;
     }
     let list = &text[0..n];
