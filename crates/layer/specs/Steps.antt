@@ -8,7 +8,7 @@ use lib.ListN.{length, getD}
 use Rattle.dictionary.specs.Limits.{limit}
 use Rattle.layout.specs.declared.Widths.{Widths}
 use Rattle.layout.specs.Steps.{Few}
-use Rattle.value.specs.Encoding.{objectWidths}
+use Rattle.encoding.specs.Encoding.{objectWidths}
 use Rattle.layer.specs.declared.Refusal.{Refusal}
 use Rattle.layer.specs.declared.Layer.{Layer}
 use Rattle.layer.specs.declared.Head.{Head}

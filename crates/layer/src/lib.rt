@@ -3,8 +3,8 @@ ghost use mathlib.Core.Path.{_≡_};
 ghost use Prim.Native.Nat.{_≤_, _<_};
 ghost use Rattle.layer.specs.Object.{count as countOf, id as idOf, offset as offsetOf};
 ghost use Rattle.layer.specs.Steps.{LeadOf, LayerOf, HeadOf};
+use encoding::Header;
 use layout::Widths;
-use value::Header;
 
 // One case for each of the refusals 20 to 28, with its place, and the dictionary's own.
 pub enum Refusal {
@@ -69,7 +69,7 @@ pub fn read_header(object: &[u8]) -> Head
     if object.len() < 1 {
         return Head::Refused(Refusal::Empty);
     }
-    let header = value::header_of(object[0]);
+    let header = encoding::header_of(object[0]);
     match header {
         Header::Object(w) => read_layout(object, w),
         Header::Primitive(_) => Head::Refused(Refusal::BasicType),

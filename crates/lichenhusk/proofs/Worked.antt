@@ -11,7 +11,7 @@ use Rattle.dictionary.specs.Limits.{limit}
 use Rattle.dictionary.specs.Dictionary as dictionary
 use Rattle.layer.specs.Object as object
 use Rattle.layout.specs.Layout as layout
-use Rattle.value.specs.Encoding as value
+use Rattle.encoding.specs.Encoding as encoding
 use Rattle.run.specs.Run as run
 use Rattle.lookup.specs.ByName as by-name
 use Rattle.many.specs.Many as many
@@ -28,8 +28,8 @@ unfolding le bytesOf upTo leadOf tailsOf char textUpTo begins isCut compareOf be
     object.basicType object.offsetWidth object.idWidth object.countWidth object.count object.idsStart object.id object.offsetsStart
     object.offset object.start object.end object.fieldName object.nameRules object.offsetRules object.checksWithin object.verdictWithin
     by-name.lookupWithin run.begin run.name run.endRules run.checks many.rowWithin many.manyChecksWithin many.lookupsWithin many.rowsAfterWithin
-    layout.count layout.offsetsStart layout.offset layout.start layout.end value.countWidth value.objectWidths value.listWidths value.headerOf
-    value.payload value.holdsLength value.held value.bytesBy value.lengthRules value.caseOf value.lengthBy value.ownLength
+    layout.count layout.offsetsStart layout.offset layout.start layout.end encoding.countWidth encoding.objectWidths encoding.listWidths encoding.headerOf
+    encoding.payload encoding.holdsLength encoding.held encoding.bytesBy encoding.lengthRules encoding.caseOf encoding.lengthBy encoding.ownLength
     listing.child listing.span listing.spanRules listing.row listing.listChecksWithin listing.listedWithin listing.wordsAfterWithin
     bytesOfWords stripAfter
 worked = refl

@@ -1,6 +1,6 @@
 // What kind of value a header byte says, in the words of VariantEncoding.md.
+use encoding::Header;
 use print::tell;
-use value::Header;
 
 fn number(t: usize) -> bool {
     match t {
@@ -42,7 +42,7 @@ fn primitive(t: usize) -> bool {
 }
 
 pub fn kind(first: u8) -> bool {
-    let header = value::header_of(first);
+    let header = encoding::header_of(first);
     match header {
         Header::Primitive(t) => primitive(t),
         Header::ShortString(_) => tell(b"short string"),

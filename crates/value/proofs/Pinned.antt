@@ -1,17 +1,7 @@
--- Each public call's promise fixes its whole answer: two answers that meet it are equal. Assumes nothing.
-use Rattle.rules.proofs.Prelude.{_≡_, sym, _∙_, Bool, List, ℕ}
-use Rattle.value.specs.declared.Header.{Header}
-use Rattle.value.specs.declared.Length.{Length}
-use Rattle.value.specs.Promises.{HeaderPromise, LengthPromise, KnownPromise, BytesPromise}
+-- The call's promise fixes its whole answer, a NaN's bits included: two answers that meet it are equal. Assumes nothing.
+use Rattle.rules.proofs.Prelude.{_≡_, sym, _∙_, List, ℕ}
+use Rattle.value.specs.declared.Value.{Value}
+use Rattle.value.specs.Promises.{ReadPromise}
 
-pub header-pinned : (b : ℕ) (r q : Header) → HeaderPromise b r → HeaderPromise b q → r ≡ q
-header-pinned b r q x y = x .says ∙ sym (y .says)
-
-pub length-pinned : (s : List ℕ) (r q : Length) → LengthPromise s r → LengthPromise s q → r ≡ q
-length-pinned s r q x y = x ∙ sym y
-
-pub known-pinned : (l : Length) (r q : Bool) → KnownPromise l r → KnownPromise l q → r ≡ q
-known-pinned l r q x y = x ∙ sym y
-
-pub bytes-pinned : (l : Length) (r q : ℕ) → BytesPromise l r → BytesPromise l q → r ≡ q
-bytes-pinned l r q x y = x ∙ sym y
+pub read-pinned : (s : List ℕ) (r q : Value) → ReadPromise s r → ReadPromise s q → r ≡ q
+read-pinned s r q x y = x ∙ sym y

@@ -1,30 +1,9 @@
--- What each public call promises, once for its `ensures` and for proofs/Pinned.antt. Assumes nothing.
+-- What the public call promises, once for its `ensures` and for proofs/Pinned.antt. Assumes nothing.
 use mathlib.Core.Path.{_≡_}
-use mathlib.Core.Bool.{Bool}
 use mathlib.Core.List.{List}
-use Prim.Native.Nat.{ℕ, _<_}
-use Rattle.layout.specs.Steps.{Few}
-use Rattle.value.specs.declared.Header.{Header}
-use Rattle.value.specs.declared.Header.the-variants as header
-use Rattle.value.specs.declared.Length.{Length}
-use Rattle.value.specs.Encoding.{headerOf, ownLength, isKnown, bytesOf}
+use Prim.Native.Nat.{ℕ}
+use Rattle.value.specs.declared.Value.{Value}
+use Rattle.value.specs.Reading.{reading}
 
--- what the byte says, and within which bounds a byte can say it
-abbrev pub Bounded : Header → Type 0
-Bounded (header.Primitive t) = t < 64
-Bounded (header.ShortString n) = n < 64
-Bounded (header.Object w) = Few w
-Bounded (header.List w) = Few w
-
-pub record HeaderPromise (b : ℕ) (r : Header) : Type 0 where
-  pub says : r ≡ headerOf b
-  pub bounds : Bounded r
-
-abbrev pub LengthPromise : List ℕ → Length → Type 0
-LengthPromise s r = r ≡ ownLength s
-
-abbrev pub KnownPromise : Length → Bool → Type 0
-KnownPromise l r = r ≡ isKnown l
-
-abbrev pub BytesPromise : Length → ℕ → Type 0
-BytesPromise l r = r ≡ bytesOf l
+abbrev pub ReadPromise : List ℕ → Value → Type 0
+ReadPromise s r = r ≡ reading s

@@ -1,191 +1,117 @@
-// A value by its first bytes: what its header byte says, and how long its own encoding is (variant.rs, decoder.rs).
+// A value read as a number, or as the place of its bytes (variant.rs: Variant; decoder.rs).
 ghost use mathlib.Core.Path.{_≡_};
-ghost use Prim.Native.Nat.{_≤_, _<_};
+ghost use Prim.Native.Nat.{_+_, _≤_};
 ghost use lib.ListN.{length};
-ghost use Rattle.layout.specs.Steps.{Few};
-ghost use Rattle.value.specs.Encoding.{objectWidths, listWidths, countWidth, holdsLength, lengthBy};
-ghost use Rattle.value.specs.Steps.{sized};
-ghost use Rattle.value.specs.Promises.{HeaderPromise, LengthPromise, KnownPromise, BytesPromise};
+ghost use Rattle.encoding.specs.Encoding.{payload, ownLength};
+ghost use Rattle.encoding.specs.declared.Length.the-variants.{Known};
+ghost use Rattle.value.specs.Reading.{single as singleOf, double as doubleOf, payloadStart, primitive as primitiveOf};
+ghost use Rattle.value.specs.Promises.{ReadPromise};
 
-// What the header byte says: the basic type, and in the upper six bits a primitive's type, a short string's length,
-// or the widths of an object's or a list's numbers.
-pub enum Header {
-    Primitive(usize),
-    ShortString(usize),
-    Object(layout::Widths),
-    List(layout::Widths),
-}
-
-// How long a value's own encoding is; or that it has no bytes or a cut header, a sum above the 32-bit range, an unknown
-// primitive type, or more bytes than are at hand.
-pub enum Length {
-    Known(usize),
-    Cut,
-    Sum,
+// What a value is read as. A NaN's bits have a case of their own: the logic has one NaN, which keeps none of them.
+// Bytes are those from start to end, with their kind: the primitive type, or 256 plus the basic type.
+pub enum Value {
+    Null,
+    Bool(bool),
+    I8(i8),
+    I16(i16),
+    I32(i32),
+    I64(i64),
+    F32(f32),
+    F32Nan(u32),
+    F64(f64),
+    F64Nan(u64),
+    Bytes { kind: usize, start: usize, end: usize },
+    Short,
     Unknown,
-    Longer,
 }
 
-// Bytes after the header byte, by primitive type. Types 15 and 16, whose four bytes are a length, have as many more.
-const PAYLOADS: [u8; 21] = [
-    0, // null
-    0, // true
-    0, // false
-    1, // int8
-    2, // int16
-    4, // int32
-    8, // int64
-    8, // double
-    5, // decimal4
-    9, // decimal8
-    17, // decimal16
-    4, // date
-    8, // timestamp
-    8, // timestamp without time zone
-    4, // float
-    4, // binary: its length
-    4, // string: its length
-    8, // time
-    8, // timestamp in nanoseconds
-    8, // the same without time zone
-    16, // uuid
-];
-
-// How many bytes a count has, by the bit that says so.
-fn count_width(bit: usize) -> usize
-    ensures { λ r. ⌜ r ≡ countWidth bit ⌝ }
+// A float by its bits. Without the sign, a NaN's are above those of infinity.
+fn single(n: u32) -> Value
+    ensures { λ r. ⌜ r ≡ singleOf n ⌝ }
 {
-    if bit == 1 {
-        return 4;
+    if n % 0x8000_0000 <= 0x7F80_0000 {
+        return Value::F32(f32::from_bits(n));
+    }
+    Value::F32Nan(n)
+}
+
+fn double(n: u64) -> Value
+    ensures { λ r. ⌜ r ≡ doubleOf n ⌝ }
+{
+    if n % 0x8000_0000_0000_0000 <= 0x7FF0_0000_0000_0000 {
+        return Value::F64(f64::from_bits(n));
+    }
+    Value::F64Nan(n)
+}
+
+// Where a primitive's payload starts: after the length that it holds, if it does.
+fn payload_start(t: usize) -> usize
+    ensures { λ r. ⌜ r ≡ payloadStart t ⌝ }
+{
+    if encoding::holds_length(t) {
+        return 5;
     }
     1
 }
 
-fn object_widths(b: usize) -> layout::Widths
-    ensures { λ r. ⌜ r ≡ objectWidths b ⌝ }
+fn primitive(s: &[u8], t: usize, end: usize) -> Value
+    requires { ⌜ 1 + payload t ≤ length (now s) ⌝ }
+    ensures { λ r. ⌜ r ≡ primitiveOf t (now (s .entry)) end ⌝ }
 {
-    layout::Widths {
-        count: count_width(b / 64 % 2),
-        id: b / 16 % 4 + 1,
-        offset: b / 4 % 4 + 1,
+    match t {
+        0 => Value::Null,
+        1 => Value::Bool(true),
+        2 => Value::Bool(false),
+        3 => Value::I8(number::read_i8(s, 1)),
+        4 => Value::I16(number::read_i16(s, 1)),
+        5 => Value::I32(number::read_i32(s, 1)),
+        6 => Value::I64(number::read_i64(s, 1)),
+        7 => double(width::unpack_u64(s, 1) as u64),
+        14 => single(width::unpack_u32(s, 1, 4) as u32),
+        _ => Value::Bytes {
+            kind: t,
+            start: payload_start(t),
+            end,
+        },
     }
 }
 
-fn list_widths(b: usize) -> layout::Widths
-    ensures { λ r. ⌜ r ≡ listWidths b ⌝ }
+// A value whose own bytes end at `end`.
+fn whole(s: &[u8], end: usize) -> Value
+    requires { ⌜ ownLength (now s) ≡ Known end ⌝ }
+    ensures { λ r. ⌜ ReadPromise (now (s .entry)) r ⌝ }
 {
-    layout::Widths {
-        count: count_width(b / 16 % 2),
-        id: 0,
-        offset: b / 4 % 4 + 1,
+    let header = encoding::header_of(s[0]);
+    match header {
+        encoding::Header::Primitive(t) => primitive(s, t, end),
+        encoding::Header::ShortString(_) => Value::Bytes {
+            kind: 257,
+            start: 1,
+            end,
+        },
+        encoding::Header::Object(_) => Value::Bytes {
+            kind: 258,
+            start: 0,
+            end,
+        },
+        encoding::Header::List(_) => Value::Bytes {
+            kind: 259,
+            start: 0,
+            end,
+        },
     }
 }
 
-// What a value's first byte says.
-pub fn header_of(first: u8) -> Header
-    ensures { λ r. ⌜ HeaderPromise first r ⌝ }
+// Reads the value that the bytes begin with.
+pub fn read(value: &[u8]) -> Value
+    ensures { λ r. ⌜ ReadPromise (now (value .entry)) r ⌝ }
 {
-    let b = width::wide(first);
-    match b % 4 {
-        0 => Header::Primitive(b / 4),
-        1 => Header::ShortString(b / 4),
-        2 => Header::Object(object_widths(b)),
-        _ => Header::List(list_widths(b)),
-    }
-}
-
-// n bytes, where so many are at hand.
-fn within(len: usize, n: usize) -> Length
-    ensures { λ r. ⌜ r ≡ sized len n ⌝ }
-{
-    if width::U32_MAX < n {
-        return Length::Sum;
-    }
-    if len < n {
-        return Length::Longer;
-    }
-    Length::Known(n)
-}
-
-// Whether a primitive's first four bytes are the length of the others.
-fn holds_length(t: usize) -> bool
-    ensures { λ r. ⌜ r ≡ holdsLength t ⌝ }
-{
-    if t == 15 {
-        return true;
-    }
-    t == 16
-}
-
-fn primitive_length(s: &[u8], t: usize) -> Length
-    requires { ⌜ 1 ≤ length (now s) ⌝ }
-    ensures { λ r. ⌜ r ≡ lengthBy (Header.Primitive t) (now (s .entry)) ⌝ }
-{
-    if 21 <= t {
-        return Length::Unknown;
-    }
-    let payload = width::wide(PAYLOADS[t]);
-    if holds_length(t) {
-        if s.len() < 5 {
-            return Length::Cut;
-        }
-        let held = width::unpack_u32(s, 1, 4);
-        return within(s.len(), 1 + payload + held);
-    }
-    within(s.len(), 1 + payload)
-}
-
-fn layout_length(s: &[u8], w: layout::Widths) -> Length
-    requires { ⌜ Few w ⌝ }
-    ensures { λ r. ⌜ r ≡ lengthBy (Header.Object w) (now (s .entry)) ⌝ }
-{
-    let head = layout::read(s, w);
-    match head {
-        layout::Head::Cut => Length::Cut,
-        layout::Head::Sum => Length::Sum,
-        layout::Head::Longer => Length::Longer,
-        layout::Head::Good(l) => Length::Known(l.end),
-    }
-}
-
-// The own length of the value that the bytes begin with, by its first bytes alone.
-pub fn own_length(s: &[u8]) -> Length
-    ensures { λ r. ⌜ LengthPromise (now (s .entry)) r ⌝ }
-{
-    if s.len() < 1 {
-        return Length::Cut;
-    }
-    let h = header_of(s[0]);
-    match h {
-        Header::Primitive(t) => primitive_length(s, t),
-        Header::ShortString(n) => within(s.len(), 1 + n),
-        Header::Object(w) => layout_length(s, w),
-        Header::List(w) => layout_length(s, w),
-    }
-}
-
-// Whether a length is known.
-pub fn is_known(l: Length) -> bool
-    ensures { λ r. ⌜ KnownPromise l r ⌝ }
-{
-    match l {
-        Length::Known(_) => true,
-        Length::Cut => false,
-        Length::Sum => false,
-        Length::Unknown => false,
-        Length::Longer => false,
-    }
-}
-
-// The bytes of a length that is known; none of any other.
-pub fn bytes_of(l: Length) -> usize
-    ensures { λ r. ⌜ BytesPromise l r ⌝ }
-{
-    match l {
-        Length::Known(n) => n,
-        Length::Cut => 0,
-        Length::Sum => 0,
-        Length::Unknown => 0,
-        Length::Longer => 0,
+    let length = encoding::own_length(value);
+    match length {
+        encoding::Length::Known(end) => whole(value, end),
+        encoding::Length::Cut => Value::Short,
+        encoding::Length::Sum => Value::Short,
+        encoding::Length::Unknown => Value::Unknown,
+        encoding::Length::Longer => Value::Short,
     }
 }

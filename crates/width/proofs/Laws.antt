@@ -2,11 +2,11 @@
 use mathlib.Core.Path.{_≡_, refl, ap, _∙_}
 use mathlib.Core.List.{List, [], _∷_, _++_}
 use Prim.Native.Nat.{ℕ, zero, suc, _+_, _*_, _^_, _%_, _/_, _≤_, _<_}
-use native.Mathlib.Nat.{pow-succ', one-le-pow, mul-assoc, mul-zero, add-zero}
+use native.Mathlib.Nat.{pow-succ', one-le-pow, mul-assoc, mul-zero, add-zero, zero-add}
 use native.Mathlib.Numerals.{add-one}
 use native.Mathlib.Omega.{arith}
 use lib.ListN.{length, take, drop, getD, length-drop}
-use lib.Seq.{drop-append-le, getD-drop}
+use lib.Seq.{drop-append-le, drop-drop, getD-drop}
 use Rattle.width.specs.Width.{le, bytesOf}
 
 -- each element is a byte
@@ -70,6 +70,19 @@ unpack-first at s e =
 
 pub unpack-more : (w at : ℕ) (s : List ℕ) {r b : ℕ} → r ≡ le w (drop at s) → b ≡ getD s (at + w) 0 → r + 256 ^ w * b ≡ le (w + 1) (drop at s)
 unpack-more w at s p q = rw (p, q, add-one w, ← getD-drop at s w 0) (le-top w (drop at s))
+
+-- A NUMBER OF a + b BYTES is one of a bytes and one of b bytes above it: eight bytes are read as two fours
+le-split : (a b : ℕ) (s : List ℕ) → le (a + b) s ≡ le a s + 256 ^ a * le b (drop a s)
+unfolding le
+le-split zero b s = rw (zero-add b) (omega arith)
+le-split (suc a) b [] = rw (none (suc a + b), none b, mul-zero (256 ^ suc a))
+le-split (suc a) b (x ∷ s) =
+    let e : suc a + b ≡ suc (a + b) = omega arith in
+    rw e (omega (arith, le-split a b s, mul-assoc 256 (256 ^ a) (le b (drop a s)), ap (λ (k : ℕ). k * le b (drop a s)) (pow-succ' 256 a)))
+
+pub unpack-above : (a b at : ℕ) (s : List ℕ) {low high : ℕ} → low ≡ le a (drop at s) → high ≡ le b (drop (at + a) s)
+    → low + 256 ^ a * high ≡ le (a + b) (drop at s)
+unpack-above a b at s p q = rw (p, q, ← drop-drop a at s, le-split a b (drop at s))
 
 -- WRITTEN AND READ
 

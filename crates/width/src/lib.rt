@@ -1,7 +1,7 @@
-// Little-endian numbers of one to four bytes (decoder.rs: OffsetSizeBytes).
+// Little-endian numbers of one to four bytes, and of eight (decoder.rs: OffsetSizeBytes; utils.rs: array_from_slice).
 ghost use Prim.Native.Nat.{_+_, _≤_};
 ghost use lib.ListN.{length};
-ghost use Rattle.width.specs.Promises.{WidePromise, UnpackPromise, PackPromise};
+ghost use Rattle.width.specs.Promises.{WidePromise, UnpackPromise, Unpack64Promise, PackPromise};
 
 // The largest number of 32 bits: sums are worked in 64 bits and held to it.
 pub const U32_MAX: usize = 0xFFFF_FFFF;
@@ -32,6 +32,16 @@ pub fn unpack_u32(s: &[u8], at: usize, width: usize) -> usize
         return three;
     }
     three + 0x100_0000 * wide(s[at + 3])
+}
+
+// The number that the eight bytes at `at` spell: two halves of four.
+pub fn unpack_u64(s: &[u8], at: usize) -> usize
+    requires { ⌜ at + 8 ≤ length (now s) ⌝ }
+    ensures { λ r. ⌜ Unpack64Promise (now (s .entry)) at r ⌝ }
+{
+    let low = unpack_u32(s, at, 4);
+    let high = unpack_u32(s, at + 4, 4);
+    low + 0x1_0000_0000 * high
 }
 
 // The low 32 bits of a number, into the four bytes at `at`, the lowest byte first.

@@ -2,9 +2,9 @@
 use Rattle.rules.proofs.Prelude.{_≡_, _∙_, sym, ap, ℕ, arith, needs, first-at, _&_}
 use Prim.Native.Nat.{_%_}
 use Rattle.dictionary.specs.Limits.{limit}
-use Rattle.value.specs.declared.Header.{Header}
-use Rattle.value.specs.Promises.{HeaderPromise}
-use Rattle.value.proofs.Laws.{typeOf, type-is, object-says}
+use Rattle.encoding.specs.declared.Header.{Header}
+use Rattle.encoding.specs.Promises.{HeaderPromise}
+use Rattle.encoding.proofs.Laws.{typeOf, type-is, object-says}
 use Rattle.layer.specs.Object.{basicType}
 use Rattle.layer.proofs.read_header.Statement.{statement}
 use Rattle.layer.proofs.read_header.Tie as tie

@@ -1,0 +1,5 @@
+pub mod Laws
+pub mod Means
+pub mod Appended
+pub mod Cut
+pub mod Pinned

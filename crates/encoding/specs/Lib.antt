@@ -1,0 +1,4 @@
+pub mod Encoding
+pub mod Meaning
+pub mod Promises
+pub mod Steps

@@ -1,0 +1,20 @@
+-- `number::read_i8` meets its contract, by the law over the width. Assumes nothing.
+use mathlib.Core.Path.{refl}
+use native.Mathlib.Omega.{arith}
+use borrow.Author.Needs.{needs}
+use mir.Syntax.{w8}
+use Rattle.number.proofs.Sign.{at-least, fits, below}
+use Rattle.number.proofs.read_i8.Statement.{statement}
+use Rattle.number.proofs.read_i8.Tie as tie
+
+pub read-i8-spec : {M : Type 1} → statement M
+read-i8-spec =
+    tie.close
+    (tie.spec
+    (λ c κs. search needs)  -- unpack-u32-requires
+    (λ c. search needs)  -- cast-result
+    (λ c. at-least w8 _ _ (c .before .unpack-u32 .ensures .is) (c .if1 .taken))  -- returns
+    (λ c. omega (arith, c .before .unpack-u32 .ensures .within))  -- sub-result
+    (λ c. record { sfits = omega (arith, c .before .unpack-u32 .ensures .within) })  -- cast-result-2
+    (λ c. fits w8 _ _ (c .before .unpack-u32 .ensures .is) _ refl (omega (arith, c .before .unpack-u32 .ensures .within)))  -- sub-result-2
+    (λ c. below w8 _ _ (c .before .unpack-u32 .ensures .is) _ refl (omega (arith, c .before .unpack-u32 .ensures .within)) (c .if1 .left) (omega (arith, c .before .unpack-u32 .ensures .within))))  -- returns-2
