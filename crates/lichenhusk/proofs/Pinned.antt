@@ -2,7 +2,7 @@
 use Rattle.rules.proofs.Prelude.{_≡_, sym, _∙_, List, ℕ}
 use Rattle.lichenhusk.specs.Promises.{Left, Filled, EmptyPromise}
 
--- lookup, dictionary, name and layer
+-- lookup, dictionary, name, layer and value
 pub strip-pinned : (strip words : List ℕ) (c c′ : ℕ) (a a′ : List ℕ) → Left strip words c a → Left strip words c′ a′ → (c ≡ c′) × (a ≡ a′)
 strip-pinned strip words c c′ a a′ l m = (l .returns ∙ sym (m .returns), l .leaves ∙ sym (m .leaves))
 

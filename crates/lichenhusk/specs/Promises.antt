@@ -7,7 +7,7 @@ use Rattle.rules.specs.Rules.{codeOf}
 use Rattle.dictionary.specs.Dictionary.{emptied, roomAfter}
 use Rattle.many.specs.Many.{rowsAfter}
 use Rattle.listing.specs.Words.{wordsAfter}
-use Rattle.lichenhusk.specs.Strip.{lookupWords, allWords, layerWords, listWords, verdictWords, nameAtWords, returned, stripAfter, filledAfter}
+use Rattle.lichenhusk.specs.Strip.{lookupWords, allWords, layerWords, listWords, verdictWords, nameAtWords, valueWords, returned, stripAfter, filledAfter}
 
 -- of every call that fills a strip: the words of its answer
 pub record Left (strip words : List ℕ) (code : ℕ) (after : List ℕ) : Type 0 where
@@ -25,6 +25,9 @@ NamePromise d i strip = Left strip (nameAtWords d i)
 
 abbrev pub LayerPromise : List ℕ → List ℕ → List ℕ → ℕ → List ℕ → Type 0
 LayerPromise d o strip = Left strip (layerWords d o)
+
+abbrev pub ValuePromise : List ℕ → List ℕ → ℕ → List ℕ → Type 0
+ValuePromise s strip = Left strip (valueWords s)
 
 -- of a call that fills lent words, too: what they are filled with
 pub record Filled (strip words lent filled : List ℕ) (code : ℕ) (after lentAfter : List ℕ) : Type 0 where

@@ -10,7 +10,9 @@ use Rattle.layer.specs.Object as object
 use Rattle.lookup.specs.ByName as by-name
 use Rattle.many.specs.Many as many
 use Rattle.listing.specs.Words as listing
-use Rattle.strip.specs.Shapes.{wordsOf, lookupShape, layerShape, dictionaryShape, nameShape, bytesOfWords, stripBytes}
+use Rattle.value.specs.Reading.{reading}
+use Rattle.value.specs.Answers.{valueNumbers}
+use Rattle.strip.specs.Shapes.{wordsOf, lookupShape, layerShape, dictionaryShape, nameShape, valueShape, bytesOfWords, stripBytes}
 
 -- THE WORDS OF EACH CALL
 
@@ -31,6 +33,9 @@ verdictWords d = wordsOf dictionaryShape (dictionary.verdict d)
 
 abbrev pub nameAtWords : List ℕ → ℕ → List ℕ
 nameAtWords d i = wordsOf nameShape (dictionary.nameAt d i)
+
+abbrev pub valueWords : List ℕ → List ℕ
+valueWords s = wordsOf valueShape (valueNumbers (reading s))
 
 -- THE STRIP: 40, below 24 bytes, is checked first
 

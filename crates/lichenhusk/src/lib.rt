@@ -1,5 +1,5 @@
 // What a host calls through C: each answer as a strip of six little-endian u32 (include/lichenhusk.h).
-ghost use Rattle.lichenhusk.specs.Promises.{LookupPromise, AllPromise, DictionaryPromise, NamePromise, LayerPromise, ListPromise, EmptyPromise};
+ghost use Rattle.lichenhusk.specs.Promises.{LookupPromise, AllPromise, DictionaryPromise, NamePromise, LayerPromise, ListPromise, ValuePromise, EmptyPromise};
 
 // The bytes of a strip, below which the answer is 40.
 pub const STRIP: usize = 24;
@@ -91,6 +91,18 @@ pub extern "C" fn lichenhusk_list(
     }
     let six = words::of_listing(listing::list(dict, object, words));
     strip::write(strip, six)
+}
+
+// A value: its kind, 0, and its 64 bits in two words, or the start and end of its bytes.
+#[no_mangle]
+pub extern "C" fn lichenhusk_value(value: &[u8], strip: &mut [u8]) -> u32
+    ensures { λ r. ⌜ ValuePromise (now (value .entry)) (now (strip .entry)) r (now (strip .exit)) ⌝ }
+{
+    if strip.len() < STRIP {
+        return 40;
+    }
+    let words = bits::of_value(value::read(value));
+    strip::write(strip, words)
 }
 
 // The empty dictionary: 0, or 42 below three bytes of room.

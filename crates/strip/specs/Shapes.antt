@@ -40,6 +40,10 @@ dictionaryShape = record { number = value 0; id = unused; start = unused; end = 
 abbrev pub nameShape : Shape
 nameShape = record { number = unused; id = unused; start = value 0; end = value 1 }
 
+-- a value's kind, and its bits' lower and higher word or the start and end of its bytes
+abbrev pub valueShape : Shape
+valueShape = layerShape
+
 -- A REFUSAL, or absence, has no values: four zeros between code and place, whatever was called
 abbrev pub refusalWords : (code place : ℕ) → List ℕ
 refusalWords code place = code ∷ 0 ∷ 0 ∷ 0 ∷ 0 ∷ place ∷ []

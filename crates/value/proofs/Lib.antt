@@ -1,2 +1,3 @@
 pub mod Laws
+pub mod Bits
 pub mod Pinned

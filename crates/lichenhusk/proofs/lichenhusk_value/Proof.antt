@@ -1,0 +1,20 @@
+-- `lichenhusk::lichenhusk_value` meets its contract: 40, or the words of the answer. Assumes nothing.
+use Rattle.rules.proofs.Prelude.{ap, _∙_, arith, needs}
+use Rattle.value.specs.Answers.{valueNumbers, Numeral}
+use Rattle.value.proofs.Bits.{numeral}
+use Rattle.strip.specs.Shapes.{wordsOf, valueShape}
+use Rattle.lichenhusk.proofs.Laws.{no-strip, on-strip}
+use Rattle.lichenhusk.proofs.lichenhusk_value.Statement.{statement}
+use Rattle.lichenhusk.proofs.lichenhusk_value.Tie as tie
+
+pub lichenhusk-value-spec : {M : Type 1} → statement M
+lichenhusk-value-spec =
+    tie.close
+    (tie.spec
+    (λ c. no-strip _ _ (omega arith))  -- returns
+    (λ c κs. search needs)  -- read-requires
+    (λ c κs. rw (c .read .ensures) (numeral _))  -- of-value-requires
+    (λ c κs. search needs) (λ c. search needs)
+    (λ c. let w = c .before .before in
+    let six = w .before .before in
+    on-strip _ _ (omega arith) (six .of-value .ensures ∙ ap (λ v. wordsOf valueShape (valueNumbers v)) (six .before .read .ensures)) (w .write .ensures)))  -- returns-2
