@@ -1,3 +1,4 @@
 pub mod Laws
 pub mod Bits
+pub mod Means
 pub mod Pinned
