@@ -1,2 +1,3 @@
 pub mod Sign
+pub mod Means
 pub mod Pinned

@@ -37,6 +37,11 @@ minus (suc k) = ap (λ (n : ℕ). negsuc (suc n)) (zero-add k)
 less : (n m : ℕ) → n < suc m → pos n -ℤ pos (suc m) ≡ negsuc (m - n)
 less n m h = rw (lt-ltb n (suc m) h) (ap negsuc (omega arith))
 
+pub less-whole : (n k m : ℕ) → n + suc k ≡ m → pos n -ℤ pos m ≡ negsuc k
+less-whole n k m e =
+    let whole : m ≡ suc (n + k) = omega arith in
+    let rest : n + k - n ≡ k = omega arith in rw whole (less n (n + k) (omega arith) ∙ ap negsuc rest)
+
 module _ (w : Width) (s : List ℕ) (n : ℕ) (is : n ≡ le (bytes w) s) where
   -- BELOW HALF: the number itself
   pub at-least : n < 2 ^ hbits w → toZ w n ≡ signed (bytes w) s

@@ -1,4 +1,5 @@
 pub mod Laws
 pub mod Bits
 pub mod Means
+pub mod Local
 pub mod Pinned
