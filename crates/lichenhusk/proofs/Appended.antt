@@ -17,7 +17,7 @@ use Rattle.lichenhusk.proofs.Carries.{first-is}
 
 -- an answer that its code keeps is left as it was; with 40 nothing is looked at
 module _ (shape : Shape) (strip : List ℕ) (x y : Answer) {code : ℕ} {after : List ℕ} where
-  keeps : (code ≡ codeOf x → y ≡ x) → Left strip (wordsOf shape x) code after → Left strip (wordsOf shape y) code after
+  pub keeps : (code ≡ codeOf x → y ≡ x) → Left strip (wordsOf shape x) code after → Left strip (wordsOf shape y) code after
   unfolding returned stripAfter
   keeps same l = go (decLt (length strip) stripBytes)
     where

@@ -3,7 +3,7 @@
 use mathlib.Core.Path.{_≡_}
 use mathlib.Core.Logic.{_↔_}
 use mathlib.Core.List.{List, [], _∷_, _++_}
-use Prim.Native.Nat.{ℕ, _*_, _≤_, _<_}
+use Prim.Native.Nat.{ℕ, _*_, _/_, _%_, _≤_, _<_}
 use lib.ListN.{length, drop}
 use Rattle.width.specs.Width.{le}
 use Rattle.part.specs.Part.{part}
@@ -19,6 +19,12 @@ use Rattle.many.specs.Meaning as many
 use Rattle.many.specs.Meaning.{Answered, RefusedAfter, rowAt}
 use Rattle.listing.specs.Words.{rows}
 use Rattle.listing.specs.Meaning.{Listed, NoLength, NoRoom}
+use Rattle.number.specs.Signed.{signed, extended}
+use Rattle.layout.specs.declared.Widths.{Widths}
+use Rattle.encoding.specs.declared.Header.the-variants as header
+use Rattle.value.specs.declared.Value.the-variants.{Short, Unknown}
+use Rattle.value.specs.Reading.{payloadStart}
+use Rattle.value.specs.Meaning.{Begins, OfType, Placed, Reads}
 use Rattle.strip.specs.Shapes.{refusalWords, stripBytes}
 
 -- WHAT CODE, NUMBER, ID, START, END AND PLACE SAY, call by call
@@ -57,6 +63,28 @@ pub data AllSays (d o names ends words : List ℕ) : List ℕ → Type 0 where
   bad-end : {k : ℕ} → BadEnd names ends k → AllSays d o names ends words (refusalWords 45 k)
   no-room : many.NoRoom d o names ends words → AllSays d o names ends words (refusalWords 41 0)
   refused : {c p : ℕ} → 10 ≤ c → c < 29 → RefusedAfter d o names ends c p → AllSays d o names ends words (refusalWords c p)
+
+-- of a value. An integer's 64 bits, w bytes extended; a float's own bits, a NaN's too; for all others the start and end of their bytes
+pub data IntegerOf : (type width : ℕ) → Type 0 where
+  int8 : IntegerOf 3 1
+  int16 : IntegerOf 4 2
+  int32 : IntegerOf 5 4
+  int64 : IntegerOf 6 8
+
+pub data ValueSays (s : List ℕ) : List ℕ → Type 0 where
+  null : {n : ℕ} → OfType s 0 n → ValueSays s (0 ∷ 0 ∷ 0 ∷ 0 ∷ 0 ∷ 0 ∷ [])
+  is-true : {n : ℕ} → OfType s 1 n → ValueSays s (0 ∷ 1 ∷ 0 ∷ 0 ∷ 0 ∷ 0 ∷ [])
+  is-false : {n : ℕ} → OfType s 2 n → ValueSays s (0 ∷ 2 ∷ 0 ∷ 0 ∷ 0 ∷ 0 ∷ [])
+  integer : {t w n b : ℕ} → OfType s t n → IntegerOf t w → b ≡ extended (signed w (drop 1 s))
+      → ValueSays s (0 ∷ t ∷ 0 ∷ b % 4294967296 ∷ b / 4294967296 ∷ 0 ∷ [])
+  double : {n : ℕ} → OfType s 7 n → ValueSays s (0 ∷ 7 ∷ 0 ∷ le 4 (drop 1 s) ∷ le 4 (drop 5 s) ∷ 0 ∷ [])
+  float : {n : ℕ} → OfType s 14 n → ValueSays s (0 ∷ 14 ∷ 0 ∷ le 4 (drop 1 s) ∷ 0 ∷ 0 ∷ [])
+  place : {t n : ℕ} → OfType s t n → Placed t → ValueSays s (0 ∷ t ∷ 0 ∷ payloadStart t ∷ n ∷ 0 ∷ [])
+  short-string : {k n : ℕ} → Begins s (header.ShortString k) n → ValueSays s (0 ∷ 257 ∷ 0 ∷ 1 ∷ n ∷ 0 ∷ [])
+  object : {w : Widths} {n : ℕ} → Begins s (header.Object w) n → ValueSays s (0 ∷ 258 ∷ 0 ∷ 0 ∷ n ∷ 0 ∷ [])
+  list : {w : Widths} {n : ℕ} → Begins s (header.List w) n → ValueSays s (0 ∷ 259 ∷ 0 ∷ 0 ∷ n ∷ 0 ∷ [])
+  short : Reads s Short → ValueSays s (refusalWords 50 0)
+  no-such-type : Reads s Unknown → ValueSays s (refusalWords 51 0)
 
 -- WHAT A CALL TELLS
 

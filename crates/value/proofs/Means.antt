@@ -24,15 +24,15 @@ use Rattle.value.proofs.Bits.{either}
 
 -- WHAT IS READ IS SO
 module _ (s : List ℕ) where
-  double-reads : {n : ℕ} → OfType s 7 n → Reads s (double (le 8 (drop 1 s)))
+  pub double-reads : {n : ℕ} → OfType s 7 n → Reads s (double (le 8 (drop 1 s)))
   unfolding double
   double-reads b = either (Reads s) (nanBits binary64 (le 8 (drop 1 s))) (double-nan b) (a-double b)
 
-  single-reads : {n : ℕ} → OfType s 14 n → Reads s (single (le 4 (drop 1 s)))
+  pub single-reads : {n : ℕ} → OfType s 14 n → Reads s (single (le 4 (drop 1 s)))
   unfolding single
   single-reads b = either (Reads s) (nanBits binary32 (le 4 (drop 1 s))) (float-nan b) (float b)
 
-  placed-reads : {t n : ℕ} → OfType s t n → Placed t → Reads s (Bytes t (payloadStart t) n)
+  pub placed-reads : {t n : ℕ} → OfType s t n → Placed t → Reads s (Bytes t (payloadStart t) n)
   unfolding payloadStart
   placed-reads {t} {n} b p = go (holdsLength t) refl
     where
