@@ -1,7 +1,8 @@
--- None of document 01's six wrong versions meets its promise, nor one for request c), nor one for many names, by the worked cases: a function
+-- None of document 01's six wrong versions meets its promise, nor one for request c), nor one for many names, nor three for values, by the worked cases: a function
 -- that meets it and is one of them cannot be. Assumes nothing.
 use Rattle.rules.proofs.Prelude.{_≡_, ap, _∙_, List, [], _∷_, ℕ, arith, getD, replicate, accept}
 use denote.Ref.{RefT}
+use lib.IntN.{pos, negsuc}
 use Rattle.dictionary.specs.declared.Refusal.the-variants.{Short}
 use Rattle.metadata.specs.declared.Verdict.{Verdict}
 use Rattle.metadata.specs.declared.Verdict.the-variants as verdict
@@ -17,6 +18,9 @@ use Rattle.many.specs.Meaning.{rowAt}
 use Rattle.many.specs.Promises.{GetAllPromise}
 use Rattle.listing.specs.declared.Listing.{Listing}
 use Rattle.listing.specs.Promises.{ListPromise}
+use Rattle.value.specs.declared.Value.{Value}
+use Rattle.value.specs.declared.Value.the-variants as value
+use Rattle.value.specs.Promises.{ReadPromise}
 use Rattle.lichenhusk.specs.Worked.{Told, D, P, alone, flow, roll, run}
 use Rattle.lichenhusk.specs.Worked.Told.{leaves}
 use Rattle.lichenhusk.proofs.Worked.{worked}
@@ -103,3 +107,27 @@ not-the-whole child meets wrong =
     let found : by-name.lookup D P flow ≡ accept (0 ∷ 0 ∷ 8 ∷ 10 ∷ []) = cc in
     let says = rw (wrong D object flow, found) at (meets D object flow .bytes) in
     let z : _≡_ {A = ℕ} 2 12 = cc in omega arith
+
+module _ (read : List ℕ → Value) (meets : (s : List ℕ) → ReadPromise s (read s)) where
+  -- one that reads a byte without its sign: FB as 251
+  pub not-unsigned : ((b : ℕ) → read (0x0C ∷ b ∷ []) ≡ value.I8 (pos b)) → ⊥
+  not-unsigned wrong =
+      let is = ap (at 31) worked in
+      let says = rw (wrong 0xFB) at (meets (0x0C ∷ 0xFB ∷ [])) in
+      let z : _≡_ {A = ℕ} 0 1 = cc in omega arith
+
+  -- one that loses what tells two NaNs apart
+  pub not-one-nan : (n : ℕ) → ((s : List ℕ) (m : ℕ) → read s ≡ value.F32Nan m → m ≡ n) → ⊥
+  not-one-nan n wrong =
+      let is-quiet = ap (at 35) worked in
+      let is-other = ap (at 36) worked in
+      let quiet : List ℕ = 0x38 ∷ 0x01 ∷ 0x00 ∷ 0xC0 ∷ 0xFF ∷ [] in
+      let other : List ℕ = 0x38 ∷ 0x01 ∷ 0x00 ∷ 0x80 ∷ 0x7F ∷ [] in
+      omega (arith, wrong quiet 0xFFC00001 (meets quiet ∙ cc), wrong other 0x7F800001 (meets other ∙ cc))
+
+  -- one that refuses every value
+  pub not-always-refused : ((s : List ℕ) → read s ≡ value.Short) → ⊥
+  not-always-refused wrong =
+      let is = ap (at 31) worked in
+      let says = rw (wrong (0x0C ∷ 0xFB ∷ [])) at (meets (0x0C ∷ 0xFB ∷ [])) in
+      let z : _≡_ {A = ℕ} 0 1 = cc in omega arith

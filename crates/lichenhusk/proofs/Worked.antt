@@ -12,6 +12,9 @@ use Rattle.dictionary.specs.Dictionary as dictionary
 use Rattle.layer.specs.Object as object
 use Rattle.layout.specs.Layout as layout
 use Rattle.encoding.specs.Encoding as encoding
+use lib.Ieee.{ofBits, toBits, nanBits, size}
+use Rattle.number.specs.Signed.{signed, extended}
+use Rattle.value.specs.Reading as value
 use Rattle.run.specs.Run as run
 use Rattle.lookup.specs.ByName as by-name
 use Rattle.many.specs.Many as many
@@ -30,6 +33,7 @@ unfolding le bytesOf upTo leadOf tailsOf char textUpTo begins isCut compareOf be
     by-name.lookupWithin run.begin run.name run.endRules run.checks many.rowWithin many.manyChecksWithin many.lookupsWithin many.rowsAfterWithin
     layout.count layout.offsetsStart layout.offset layout.start layout.end encoding.countWidth encoding.objectWidths encoding.listWidths encoding.headerOf
     encoding.payload encoding.holdsLength encoding.held encoding.bytesBy encoding.lengthRules encoding.caseOf encoding.lengthBy encoding.ownLength
+    signed extended ofBits toBits nanBits size value.single value.double value.payloadStart value.primitive value.readBy value.measured value.reading
     listing.child listing.span listing.spanRules listing.row listing.listChecksWithin listing.listedWithin listing.wordsAfterWithin
     bytesOfWords stripAfter
 worked = refl

@@ -1,7 +1,10 @@
 -- Document 01's starred worked cases, then those of document 02's requests and of many names at one check, in one table: what is asked, and what the document says.
 -- proofs/Worked.antt proves that the definitions say the same. Assumes nothing.
+use mathlib.Core.Bool.{false}
 use mathlib.Core.List.{List, [], _∷_, _++_}
 use Prim.Native.Nat.{ℕ}
+use lib.IntN.{negsuc}
+use lib.Ieee.{fin}
 use lib.ListN.{replicate}
 use Rattle.rules.specs.Rules.{Answer, refuse, accept}
 use Rattle.dictionary.specs.Dictionary as dictionary
@@ -9,6 +12,10 @@ use Rattle.layer.specs.Object as object
 use Rattle.lookup.specs.ByName as by-name
 use Rattle.many.specs.Many as many
 use Rattle.listing.specs.Words.{listed as list-of, wordsAfter}
+use Rattle.value.specs.declared.Value.{Value}
+use Rattle.value.specs.declared.Value.the-variants.{I8, F32, F32Nan, Bytes}
+use Rattle.value.specs.Reading.{reading}
+use Rattle.value.specs.Answers.{valueNumbers}
 use Rattle.lichenhusk.specs.Strip.{lookupWords, stripAfter}
 
 -- what can be asked
@@ -21,11 +28,14 @@ pub data Asked : Type 0 where
   lookups : (d o names ends words : List ℕ) → Asked
   rows : (d o names ends words : List ℕ) → Asked
   strip : (d o q bytes : List ℕ) → Asked
+  value : (s : List ℕ) → Asked
+  told : (s : List ℕ) → Asked
 
--- what is told: an answer, or what is left in the lent words or bytes
+-- what is told: an answer, what is left in the lent words or bytes, or a value
 pub data Told : Type 0 where
   answers : Answer → Told
   leaves : List ℕ → Told
+  reads : Value → Told
 
 -- what the definitions tell
 abbrev pub tell : Asked → Told
@@ -37,6 +47,8 @@ tell (listed d o words) = answers (list-of d o words)
 tell (lookups d o names ends words) = answers (many.lookups d o names ends words)
 tell (rows d o names ends words) = leaves (many.rowsAfter d o names ends words)
 tell (strip d o q bytes) = leaves (stripAfter bytes (lookupWords d o q))
+tell (value s) = reads (reading s)
+tell (told s) = answers (valueNumbers (reading s))
 
 -- D holds "flow" and "roll"
 abbrev pub D : List ℕ
@@ -57,6 +69,10 @@ gap = 0x02 ∷ 0x02 ∷ 0x00 ∷ 0x01 ∷ 0x00 ∷ 0x03 ∷ 0x04 ∷ 0x0C ∷ 0x
 abbrev pub unknown : List ℕ
 unknown = 0x02 ∷ 0x02 ∷ 0x00 ∷ 0x01 ∷ 0x00 ∷ 0x02 ∷ 0x03 ∷ 0x0C ∷ 0xFB ∷ 0x54 ∷ []
 
+-- a float of one half
+abbrev pub half : List ℕ
+half = 0x38 ∷ 0x00 ∷ 0x00 ∷ 0x00 ∷ 0x3F ∷ []
+
 abbrev pub flow : List ℕ
 flow = 0x66 ∷ 0x6C ∷ 0x6F ∷ 0x77 ∷ []
 
@@ -73,7 +89,8 @@ run = flow ++ rol ++ roll ++ 0x2E ∷ 0x2E ∷ []
 -- THE TABLE, with the ids and the strip of request c) and the 28 of request e); then request b)'s row, one for request c), where field and id
 -- differ, those of many names: their rows, a word that stays, an end that falls, one that passes the run, and a word too few; and those of
 -- request e): its second case, 28 of field 0 before 27 of field 1, and 27 of field 0 before 28 of field 1; and those of request f): a byte
--- between two children that is in no span, and a child of type 21, said before the room that is short
+-- between two children that is in no span, and a child of type 21, said before the room that is short; and those of request g): minus five and
+-- its words, a float and its bits, those of two NaNs, two texts, and the refusals
 abbrev pub starred : List (Asked × Told)
 starred =
     (verdict (0x01 ∷ 0x00 ∷ 0x00 ∷ []), answers (accept (0 ∷ 3 ∷ [])))
@@ -110,4 +127,15 @@ starred =
     ∷ (listing D gap (replicate 7 9), leaves (0 ∷ 7 ∷ 2 ∷ 1 ∷ 10 ∷ 1 ∷ 9 ∷ []))
     ∷ (listed D unknown (replicate 5 9), answers (refuse 43 1))
     ∷ (listing D unknown (replicate 6 9), leaves (replicate 6 9))
+    ∷ (value (0x0C ∷ 0xFB ∷ []), reads (I8 (negsuc 4)))
+    ∷ (told (0x0C ∷ 0xFB ∷ []), answers (accept (3 ∷ 4294967291 ∷ 4294967295 ∷ [])))
+    ∷ (value half, reads (F32 (fin false 1 (negsuc 0))))
+    ∷ (told half, answers (accept (14 ∷ 0x3F000000 ∷ 0 ∷ [])))
+    ∷ (value (0x38 ∷ 0x01 ∷ 0x00 ∷ 0xC0 ∷ 0xFF ∷ []), reads (F32Nan 0xFFC00001))
+    ∷ (value (0x38 ∷ 0x01 ∷ 0x00 ∷ 0x80 ∷ 0x7F ∷ []), reads (F32Nan 0x7F800001))
+    ∷ (value (0x0D ∷ 0x61 ∷ 0x62 ∷ 0x63 ∷ []), reads (Bytes 257 1 4))
+    ∷ (value (0x40 ∷ 0x02 ∷ 0x00 ∷ 0x00 ∷ 0x00 ∷ 0x61 ∷ 0x62 ∷ 0x63 ∷ []), reads (Bytes 16 5 7))
+    ∷ (told [], answers (refuse 50 0))
+    ∷ (told (0x0C ∷ []), answers (refuse 50 0))
+    ∷ (told (0x54 ∷ []), answers (refuse 51 0))
     ∷ []
