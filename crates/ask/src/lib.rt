@@ -7,7 +7,7 @@ ghost use Rattle.many.specs.Many.{rowsAfter};
 ghost use Rattle.listing.specs.Words.{wordsAfter};
 ghost use Rattle.strip.specs.Shapes.{stripBytes};
 ghost use Rattle.lichenhusk.specs.Strip.{lookupWords, allWords, layerWords, listWords, verdictWords, nameAtWords};
-ghost use Rattle.lichenhusk.specs.Host.{wordsIn};
+ghost use Rattle.host.specs.Host.{wordsIn};
 ghost use Rattle.ask.specs.Numbers.{numbersOf};
 use lichenhusk::STRIP;
 use print::say;

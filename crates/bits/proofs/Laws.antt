@@ -1,5 +1,5 @@
 -- A number of any width as one of 64 bits, and its bits: from the last of the range down, where it is below zero. Assumes nothing.
-use Rattle.rules.proofs.Prelude.{_≡_, refl, sym, ap, _∙_, Bool, true, false, ℕ, zero, suc, _-_, _≤_, _<_, arith, ltb, le-ltb, false-true}
+use Rattle.rules.proofs.Prelude.{_≡_, refl, sym, ap, _∙_, true, false, ℕ, suc, _-_, _≤_, _<_, arith, le-ltb, false-true}
 use Prim.Native.Nat.{_^_}
 use native.Mathlib.Nat.{lt-of-lt-of-le}
 use lib.Pow.{pow-mono}
@@ -7,7 +7,7 @@ use lib.IntN.{ℤ, pos, negsuc, natAbs, _-ℤ_}
 use lib.Signed.{ltZ}
 use mir.Syntax.{Width, w64}
 use mir.Val.{SFits, hbits, toZ, ofZ}
-use mir.Facts.{toZ-ofZ, toZ-pos}
+use mir.Facts.{toZ-ofZ}
 use Rattle.number.specs.Signed.{extended}
 
 -- minus one less a number below zero

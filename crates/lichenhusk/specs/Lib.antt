@@ -1,4 +1,2 @@
 pub mod Strip
 pub mod Promises
-pub mod Host
-pub mod Worked

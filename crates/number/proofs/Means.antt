@@ -1,14 +1,13 @@
 -- A signed number, exactly when; and what bytes after it, and its 64 bits, make of it. Each is said once over the width. Assumes nothing.
 use mathlib.Core.Path.{_≡_, refl, sym, ap, _∙_}
 use mathlib.Core.Logic.{_↔_}
-use mathlib.Core.Bool.{Bool, true, false, cond}
 use mathlib.Core.List.{List, _++_}
-use Prim.Native.Nat.{ℕ, zero, suc, _+_, _-_, _*_, _^_, _<_, _≤_}
+use Prim.Native.Nat.{ℕ, suc, _+_, _-_, _*_, _^_, _<_, _≤_}
 use native.Mathlib.Decide.{decLt}
 use native.Mathlib.Nat.{pow-le-pow-right}
 use native.Mathlib.Omega.{arith}
 use borrow.Author.Tests.{lt-ltb, le-ltb}
-use lib.IntN.{ℤ, pos, negsuc, _-ℤ_}
+use lib.IntN.{ℤ, pos, negsuc}
 use lib.ListN.{length, drop}
 use Rattle.width.specs.Width.{le}
 use Rattle.width.proofs.Laws.{Bytes, le-lt, le-append-at}
@@ -44,7 +43,18 @@ module _ (w : ℕ) (s : List ℕ) (bytes : Bytes s) where
   pub exactly-when : (z : ℤ) → (signed w s ≡ z) ↔ Spells w s z
   exactly-when z = (λ e. rw e at spelled, is-spelled z)
 
-  -- its 64 bits are a number of 64 bits
+  -- ITS 64 BITS: the same number, or the same with all higher bits set
+  pub extended-low : 2 * le w s < 256 ^ w → extended (signed w s) ≡ le w s
+  unfolding extended
+  extended-low h = rw (low h)
+
+  pub extended-high : 256 ^ w ≤ 2 * le w s → w ≤ 8 → extended (signed w s) + 256 ^ w ≡ 256 ^ 8 + le w s
+  unfolding extended
+  extended-high h few =
+      let inside = le-lt w s bytes in
+      let k = 256 ^ w - 1 - le w s in
+      let most = pow-le-pow-right {n = 256} (omega arith) few in rw (high k (omega arith) h) (omega arith)
+
   pub extended-small : w ≤ 8 → extended (signed w s) < 256 ^ 8
   unfolding extended
   extended-small few = go (signed w s) spelled

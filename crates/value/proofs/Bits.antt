@@ -1,19 +1,16 @@
 -- The bits of every float are read back exactly, a NaN's too: those that an answer tells are those that were there. So a float that is read is
 -- never the one NaN of the logic, and every other reading tells its bits as it is. Assumes nothing.
-use Rattle.rules.proofs.Prelude.{_≡_, refl, sym, ap, _∙_, Bool, true, false, not, cond, List, [], _∷_, ℕ, _<_, arith, accept, drop, getD, eqb}
+use Rattle.rules.proofs.Prelude.{_≡_, refl, sym, _∙_, Bool, true, false, not, cond, List, [], _∷_, ℕ, _<_, accept, getD, eqb}
 use Prim.Native.Nat.{_^_, _*_}
 use lib.Dec.{T}
 use lib.Ieee.{Format, binary32, binary64, ofBits, toBits, nanBits, isNan, top}
 use lib.Ieee.Bits.{nanBits-is, toBits-ofBits}
-use Rattle.width.specs.Width.{le}
-use Rattle.width.proofs.Laws.{Bytes, le-lt}
 use Rattle.encoding.specs.declared.Header.{Header}
 use Rattle.encoding.specs.declared.Header.the-variants as header
 use Rattle.encoding.specs.declared.Length.{Length}
 use Rattle.encoding.specs.declared.Length.the-variants as own
 use Rattle.encoding.specs.Encoding.{headerOf, ownLength}
 use Rattle.value.specs.declared.Value.{Value}
-use Rattle.value.specs.declared.Value.the-variants as value
 use Rattle.value.specs.Reading.{single, double, primitive, readBy, measured, reading}
 use Rattle.value.specs.Answers.{inTwo, valueNumbers, Numeral}
 

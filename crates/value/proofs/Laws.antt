@@ -1,5 +1,5 @@
 -- Which bits are a NaN's; and the reading by what the header byte says. Assumes nothing.
-use Rattle.rules.proofs.Prelude.{_≡_, refl, sym, _∙_, true, false, not, List, ℕ, _+_, _*_, _≤_, _<_, arith, ne-eqb, lt-ltb, le-ltb, length, getD}
+use Rattle.rules.proofs.Prelude.{_≡_, sym, _∙_, true, false, not, List, ℕ, _+_, _*_, _≤_, _<_, arith, ne-eqb, lt-ltb, le-ltb, length, getD}
 use Prim.Native.Nat.{_%_}
 use lib.Dec.{T}
 use lib.Ieee.{Format, binary32, binary64, ofBits, nanBits, ones, hid, top}

@@ -1,5 +1,6 @@
 pub mod Laws
 pub mod Bits
 pub mod Means
+pub mod Floats
 pub mod Local
 pub mod Pinned

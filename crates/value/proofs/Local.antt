@@ -1,9 +1,8 @@
 -- Bytes after a value's own length change no reading. Bytes added lift no refusal but that of a cut header and of a length past the bytes; a
 -- value cut anywhere before its own length is refused with 50. Assumes nothing.
-use Rattle.rules.proofs.Prelude.{_≡_, refl, sym, ap, _∙_, Bool, true, false, cond, _⊎_, inl, inr, List, _++_, ℕ, _+_, _≤_, _<_, arith, eqb}
+use Rattle.rules.proofs.Prelude.{_≡_, refl, sym, ap, _∙_, Bool, true, false, cond, _⊎_, inl, inr, List, _++_, ℕ, _+_, _≤_, _<_, eqb}
 use Rattle.rules.proofs.Prelude.{length, List·getD-append, take, drop, take-append-drop, getD}
 use borrow.Author.Tests.{eqb-true}
-use Rattle.width.specs.Width.{le}
 use Rattle.width.proofs.Laws.{le-append-at}
 use Rattle.number.proofs.Means.{signed-append-at}
 use Rattle.encoding.specs.declared.Header.{Header}

@@ -1,20 +1,19 @@
 -- A reading, exactly when: each value is read exactly from the bytes that give it in the words of specs/Meaning.antt. Assumes nothing.
-use Rattle.rules.proofs.Prelude.{_≡_, refl, sym, ap, _∙_, _↔_, true, false, Bool, cond, List, ℕ, _≤_, _<_, arith, eqb, ne-eqb, false-true, length, drop, getD}
+use Rattle.rules.proofs.Prelude.{_≡_, refl, sym, _∙_, _↔_, true, false, Bool, cond, List, ℕ, _≤_, arith, eqb, length, drop, getD}
 use borrow.Author.Tests.{eqb-true, eqb-false}
-use lib.Ieee.{binary32, binary64, ofBits, nanBits}
+use lib.Ieee.{binary32, binary64, nanBits}
 use Rattle.width.specs.Width.{le}
-use Rattle.number.specs.Signed.{signed}
 use Rattle.encoding.specs.declared.Header.{Header}
 use Rattle.encoding.specs.declared.Header.the-variants as header
 use Rattle.encoding.specs.declared.Length.{Length}
 use Rattle.encoding.specs.declared.Length.the-variants as length
 use Rattle.encoding.specs.Encoding.{headerOf, holdsLength, ownLength}
-use Rattle.encoding.specs.Meaning.{Encoded, Lacks, Due}
+use Rattle.encoding.specs.Meaning.{Lacks, Due}
 use Rattle.encoding.specs.Meaning.Lacks.{no-such-type as no-type, length-cut, count-cut, offsets-sum, start-sum, offsets-cut, end-sum, end-past}
 use Rattle.encoding.specs.Meaning.Due.{no-bytes as none-there, measured as whole, none}
 use Rattle.encoding.proofs.Means as own
 use Rattle.value.specs.declared.Value.{Value}
-use Rattle.value.specs.declared.Value.the-variants.{F32, F32Nan, F64, F64Nan, Bytes, Short, Unknown}
+use Rattle.value.specs.declared.Value.the-variants.{Bytes, Unknown}
 use Rattle.value.specs.Reading.{single, double, payloadStart, primitive, readBy, measured, reading}
 use Rattle.value.specs.Meaning.{Begins, OfType, Placed, Reads}
 use Rattle.value.specs.Meaning.Reads.{null, is-true, is-false, int8, int16, int32, int64, double as a-double, double-nan, float, float-nan}

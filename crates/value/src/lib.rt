@@ -20,7 +20,11 @@ pub enum Value {
     F32Nan(u32),
     F64(f64),
     F64Nan(u64),
-    Bytes { kind: usize, start: usize, end: usize },
+    Bytes {
+        kind: usize,
+        start: usize,
+        end: usize,
+    },
     Short,
     Unknown,
 }

@@ -4,8 +4,8 @@ use native.Mathlib.Omega.{arith}
 use borrow.Author.Needs.{needs}
 use Rattle.dictionary.specs.Dictionary.{verdict}
 use Rattle.strip.specs.Shapes.{dictionaryShape}
-use Rattle.lichenhusk.proofs.Carries.{carried}
-use Rattle.lichenhusk.proofs.Tells.{dictionary-said}
+use Rattle.host.proofs.Carries.{carried}
+use Rattle.host.proofs.Tells.{dictionary-said}
 use Rattle.ask.proofs.dictionary.Statement.{statement}
 use Rattle.ask.proofs.dictionary.Tie as tie
 

@@ -4,8 +4,8 @@ use native.Mathlib.Omega.{arith}
 use borrow.Author.Needs.{needs}
 use Rattle.layer.specs.Object.{verdict}
 use Rattle.strip.specs.Shapes.{layerShape}
-use Rattle.lichenhusk.proofs.Carries.{carried}
-use Rattle.lichenhusk.proofs.Tells.{layer-said}
+use Rattle.host.proofs.Carries.{carried}
+use Rattle.host.proofs.Tells.{layer-said}
 use Rattle.ask.proofs.layer.Statement.{statement}
 use Rattle.ask.proofs.layer.Tie as tie
 

@@ -5,8 +5,8 @@ use borrow.Author.Needs.{needs}
 use Rattle.lichenhusk.specs.Strip.{filledAfter}
 use Rattle.listing.specs.Words.{listed}
 use Rattle.strip.specs.Shapes.{layerShape}
-use Rattle.lichenhusk.proofs.Carries.{carried}
-use Rattle.lichenhusk.proofs.Tells.{list-said}
+use Rattle.host.proofs.Carries.{carried}
+use Rattle.host.proofs.Tells.{list-said}
 use Rattle.ask.proofs.list.Statement.{statement}
 use Rattle.ask.proofs.list.Tie as tie
 

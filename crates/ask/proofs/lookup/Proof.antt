@@ -4,8 +4,8 @@ use native.Mathlib.Omega.{arith}
 use borrow.Author.Needs.{needs}
 use Rattle.lookup.specs.ByName.{lookup}
 use Rattle.strip.specs.Shapes.{lookupShape}
-use Rattle.lichenhusk.proofs.Carries.{carried}
-use Rattle.lichenhusk.proofs.Tells.{lookup-said}
+use Rattle.host.proofs.Carries.{carried}
+use Rattle.host.proofs.Tells.{lookup-said}
 use Rattle.ask.proofs.lookup.Statement.{statement}
 use Rattle.ask.proofs.lookup.Tie as tie
 

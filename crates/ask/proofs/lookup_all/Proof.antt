@@ -5,8 +5,8 @@ use borrow.Author.Needs.{needs}
 use Rattle.many.specs.Many.{lookups}
 use Rattle.strip.specs.Shapes.{layerShape}
 use Rattle.lichenhusk.specs.Strip.{filledAfter}
-use Rattle.lichenhusk.proofs.Carries.{carried}
-use Rattle.lichenhusk.proofs.All.{all-said}
+use Rattle.host.proofs.Carries.{carried}
+use Rattle.host.proofs.All.{all-said}
 use Rattle.ask.proofs.lookup_all.Statement.{statement}
 use Rattle.ask.proofs.lookup_all.Tie as tie
 

@@ -4,8 +4,8 @@ use native.Mathlib.Omega.{arith}
 use borrow.Author.Needs.{needs}
 use Rattle.dictionary.specs.Dictionary.{nameAt}
 use Rattle.strip.specs.Shapes.{nameShape}
-use Rattle.lichenhusk.proofs.Carries.{carried}
-use Rattle.lichenhusk.proofs.Tells.{name-said}
+use Rattle.host.proofs.Carries.{carried}
+use Rattle.host.proofs.Tells.{name-said}
 use Rattle.ask.proofs.name.Statement.{statement}
 use Rattle.ask.proofs.name.Tie as tie
 

@@ -1,5 +1,5 @@
 -- `bits::extended` meets its contract: by the sign. Assumes nothing.
-use Rattle.rules.proofs.Prelude.{_∙_, ap, arith}
+use Rattle.rules.proofs.Prelude.{arith}
 use mir.Syntax.{w64}
 use mir.Facts.{toZ-ofZ, toZ-pos}
 use Rattle.bits.proofs.Laws.{below, bits-below, above, bits-above}

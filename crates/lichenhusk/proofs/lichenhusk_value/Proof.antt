@@ -1,6 +1,6 @@
 -- `lichenhusk::lichenhusk_value` meets its contract: 40, or the words of the answer. Assumes nothing.
 use Rattle.rules.proofs.Prelude.{ap, _∙_, arith, needs}
-use Rattle.value.specs.Answers.{valueNumbers, Numeral}
+use Rattle.value.specs.Answers.{valueNumbers}
 use Rattle.value.proofs.Bits.{numeral}
 use Rattle.strip.specs.Shapes.{wordsOf, valueShape}
 use Rattle.lichenhusk.proofs.Laws.{no-strip, on-strip}

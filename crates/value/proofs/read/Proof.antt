@@ -1,5 +1,5 @@
 -- `value::read` meets its contract: by the own length. Assumes nothing.
-use Rattle.rules.proofs.Prelude.{sym, _∙_, needs}
+use Rattle.rules.proofs.Prelude.{sym, needs}
 use Rattle.value.specs.Reading.{measured}
 use Rattle.value.proofs.Laws.{by-length}
 use Rattle.value.proofs.read.Statement.{statement}

@@ -9,9 +9,9 @@ use Rattle.layer.specs.Object as object
 use Rattle.object.proofs.Raised as object-raised
 use Rattle.lookup.specs.ByName.{lookup}
 use Rattle.lookup.proofs.Appended.{lookup-appended}
-use Rattle.lichenhusk.specs.Worked.{D, P, flow}
-use Rattle.lichenhusk.proofs.Bites.{none, at}
-use Rattle.lichenhusk.proofs.Worked.{worked}
+use Rattle.host.specs.Worked.{D, P, flow}
+use Rattle.host.proofs.Bites.{none, at}
+use Rattle.host.proofs.Worked.{worked}
 
 pub longest-dictionary : (t : List ℕ) → length (none ++ t) ≡ limit → dictionary.verdict (none ++ t) ≡ accept (0 ∷ 3 ∷ [])
 longest-dictionary t l =

@@ -11,9 +11,9 @@ use Rattle.many.proofs.Appended.{lookups-appended, rows-appended, run-appended,
 use Rattle.listing.specs.Words.{listed}
 use Rattle.listing.proofs.Appended.{listed-appended, words-appended}
 use Rattle.strip.specs.Shapes.{Shape, wordsOf, lookupShape, layerShape, dictionaryShape, nameShape, stripBytes}
 use Rattle.lichenhusk.specs.Strip.{returned, stripAfter, filledAfter}
 use Rattle.lichenhusk.specs.Promises.{Left, Filled, DictionaryPromise, NamePromise, LayerPromise, LookupPromise, ListPromise, AllPromise}
-use Rattle.lichenhusk.proofs.Carries.{first-is}
+use Rattle.host.proofs.Carries.{first-is}
 
 -- an answer that its code keeps is left as it was; with 40 nothing is looked at
 module _ (shape : Shape) (strip : List ℕ) (x y : Answer) {code : ℕ} {after : List ℕ} where

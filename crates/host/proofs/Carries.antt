@@ -5,9 +5,9 @@ use Rattle.rules.proofs.Prelude.{drop, getD, drop-append-add, Answer, codeOf, g
 use Rattle.width.specs.Width.{bytesOf}
 use Rattle.width.proofs.Laws.{bytes-length, le-bytes}
 use Rattle.strip.specs.Shapes.{Shape, wordsOf, bytesOfWords, stripBytes}
 use Rattle.lichenhusk.specs.Strip.{returned, stripAfter}
 use Rattle.lichenhusk.specs.Promises.{Left}
-use Rattle.lichenhusk.specs.Host.{word, wordsIn, Tells}
+use Rattle.host.specs.Host.{word, wordsIn, Tells}
 
 -- each word fits 32 bits
 abbrev pub Fits : List ℕ → Type 0

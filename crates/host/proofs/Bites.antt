@@ -2,7 +2,7 @@
 -- that meets it and is one of them cannot be. Assumes nothing.
 use Rattle.rules.proofs.Prelude.{_≡_, ap, _∙_, List, [], _∷_, ℕ, arith, getD, replicate, accept}
 use denote.Ref.{RefT}
-use lib.IntN.{pos, negsuc}
+use lib.IntN.{pos}
 use Rattle.dictionary.specs.declared.Refusal.the-variants.{Short}
 use Rattle.metadata.specs.declared.Verdict.{Verdict}
 use Rattle.metadata.specs.declared.Verdict.the-variants as verdict
@@ -21,9 +21,9 @@ use Rattle.listing.specs.Promises.{ListPromise}
 use Rattle.value.specs.declared.Value.{Value}
 use Rattle.value.specs.declared.Value.the-variants as value
 use Rattle.value.specs.Promises.{ReadPromise}
-use Rattle.lichenhusk.specs.Worked.{Told, D, P, alone, flow, roll, run}
-use Rattle.lichenhusk.specs.Worked.Told.{leaves}
-use Rattle.lichenhusk.proofs.Worked.{worked}
+use Rattle.host.specs.Worked.{Told, D, P, alone, flow, roll, run}
+use Rattle.host.specs.Worked.Told.{leaves}
+use Rattle.host.proofs.Worked.{worked}
 
 -- row k of the table of worked cases, on both sides
 abbrev pub at : ℕ → List Told → Told

@@ -13,15 +13,15 @@ use Rattle.lookup.proofs.Found as lookup
 use Rattle.listing.specs.Words.{listed as list-of}
 use Rattle.listing.proofs.Lists as listing
 use Rattle.strip.specs.Shapes.{Shape, wordsOf, lookupShape, layerShape, dictionaryShape, nameShape, stripBytes}
 use Rattle.lichenhusk.specs.Promises.{Left, DictionaryPromise, NamePromise, LayerPromise, LookupPromise, ListPromise}
-use Rattle.lichenhusk.specs.Host.{wordsIn, DictionarySays, NameSays, LayerSays, LookupSays, ListSays}
-use Rattle.lichenhusk.specs.Host.DictionarySays.{accepted, refused as dictionary-refused}
-use Rattle.lichenhusk.specs.Host.NameSays.{named, no-entry, refused as name-refused}
-use Rattle.lichenhusk.specs.Host.LayerSays.{accepted as layer-accepted, refused as layer-refused}
-use Rattle.lichenhusk.specs.Host.LookupSays.{found, absent, refused as lookup-refused}
-use Rattle.lichenhusk.specs.Host.ListSays.{listed, no-length, no-room, refused as list-refused}
-use Rattle.lichenhusk.proofs.Carries.{Said, carried}
-use Rattle.lichenhusk.proofs.Tells.{dictionary-said, name-said, layer-said, lookup-said, list-said}
+use Rattle.host.specs.Host.{wordsIn, DictionarySays, NameSays, LayerSays, LookupSays, ListSays}
+use Rattle.host.specs.Host.DictionarySays.{accepted, refused as dictionary-refused}
+use Rattle.host.specs.Host.NameSays.{named, no-entry, refused as name-refused}
+use Rattle.host.specs.Host.LayerSays.{accepted as layer-accepted, refused as layer-refused}
+use Rattle.host.specs.Host.LookupSays.{found, absent, refused as lookup-refused}
+use Rattle.host.specs.Host.ListSays.{listed, no-length, no-room, refused as list-refused}
+use Rattle.host.proofs.Carries.{Said, carried}
+use Rattle.host.proofs.Tells.{dictionary-said, name-said, layer-said, lookup-said, list-said}
 
 module _ (strip : List ℕ) (enough : stripBytes ≤ length strip) {code : ℕ} {after : List ℕ} where
   -- where only the answer's words say what is so

@@ -1,18 +1,15 @@
 -- What a host learns of a value: the strip's words, exactly when. Bytes are what a slice has: each is below 256, which is what makes the words
 -- fit. Assumes nothing.
-use Rattle.rules.proofs.Prelude.{_≡_, refl, sym, ap, _∙_, _↔_, Bool, true, false, cond, List, [], _∷_, _++_, ℕ, _+_, _*_, _/_, _≤_, _<_, arith, length, take, drop, getD, accept, codeOf}
-use Prim.Native.Nat.{_%_, _^_}
-use lib.Seq.{drop-drop, getD-drop}
+use Rattle.rules.proofs.Prelude.{_≡_, refl, sym, ap, _∙_, _↔_, List, [], _∷_, _++_, ℕ, _+_, _≤_, _<_, arith, length, take, drop, codeOf}
 use Rattle.width.specs.Width.{le}
 use Rattle.width.specs.Limits.{u32Max}
-use Rattle.width.proofs.Laws.{Bytes, le-lt, unpack-above}
+use Rattle.width.proofs.Laws.{Bytes}
 use Rattle.number.specs.Signed.{signed, extended}
 use Rattle.number.proofs.Means.{extended-small}
 use Rattle.encoding.specs.declared.Header.{Header}
 use Rattle.encoding.specs.declared.Length.the-variants.{Known}
-use Rattle.encoding.specs.Encoding.{holdsLength, ownLength}
+use Rattle.encoding.specs.Encoding.{ownLength}
 use Rattle.value.specs.declared.Value.{Value}
-use Rattle.value.specs.declared.Value.the-variants as value
 use Rattle.value.specs.Reading.{payloadStart, single, double, reading}
 use Rattle.value.specs.Answers.{inTwo, valueNumbers}
 use Rattle.value.specs.Meaning.{Begins, OfType, Placed, Reads}
@@ -21,56 +18,34 @@ use Rattle.value.specs.Meaning.Reads.{int64 as r-int64, double as r-double, dou
 use Rattle.value.specs.Meaning.Reads.{payload as r-payload, after-length as r-after-length, short-string as r-short-string, object as r-object, list as r-list}
 use Rattle.value.specs.Meaning.Reads.{no-bytes as r-no-bytes, header-cut as r-cut, past-range as r-range, past-bytes as r-past, no-such-type as r-no-type}
 use Rattle.value.proofs.Means as means
-use Rattle.value.proofs.Bits.{single-bits, double-bits}
+use Rattle.value.proofs.Floats.{rest-bytes, four, single-told, double-told}
 use Rattle.value.proofs.Local.{local, stays, cut}
 use Rattle.strip.specs.Shapes.{wordsOf, valueShape, refusalWords, stripBytes}
 use Rattle.lichenhusk.specs.Strip.{valueWords}
 use Rattle.lichenhusk.specs.Promises.{Left, ValuePromise}
-use Rattle.lichenhusk.specs.Host.{wordsIn, Tells, IntegerOf, ValueSays}
-use Rattle.lichenhusk.specs.Host.IntegerOf.{int8, int16, int32, int64}
-use Rattle.lichenhusk.specs.Host.ValueSays.{null, is-true, is-false, integer, double as says-double, float as says-float, place, short-string, object, list, short, no-such-type}
-use Rattle.lichenhusk.proofs.Carries.{Said, tells}
-use Rattle.lichenhusk.proofs.Exactly.{exactly}
-use Rattle.lichenhusk.proofs.Appended.{keeps}
+use Rattle.host.specs.Host.{wordsIn, Tells, IntegerOf, ValueSays}
+use Rattle.host.specs.Host.IntegerOf.{int8, int16, int32, int64}
+use Rattle.host.specs.Host.ValueSays.{null, is-true, is-false, integer, double as says-double, float as says-float, place, short-string, object, list, short, no-such-type}
+use Rattle.host.proofs.Carries.{Said, tells}
+use Rattle.host.proofs.Exactly.{exactly}
+use Rattle.host.proofs.Appended.{keeps}
 
 module _ (s : List ℕ) (bytes : Bytes s) where
-  rest-bytes : (at : ℕ) → Bytes (drop at s)
-  rest-bytes at k = rw (getD-drop at s k 0) (bytes (at + k))
-
-  four : (at : ℕ) → le 4 (drop at s) < 4294967296
-  four at = le-lt 4 (drop at s) (rest-bytes at)
-
-  -- eight bytes are two words
-  eight : le 4 (drop 1 s) + 4294967296 * le 4 (drop 5 s) ≡ le 8 (drop 1 s)
-  eight = unpack-above 4 4 1 s refl refl
-
-  in-words : inTwo 7 (le 8 (drop 1 s)) ≡ accept (7 ∷ le 4 (drop 1 s) ∷ le 4 (drop 5 s) ∷ [])
-  in-words =
-      let low : le 8 (drop 1 s) % 4294967296 ≡ le 4 (drop 1 s) = omega (arith, eight, four 1) in
-      let high : le 8 (drop 1 s) / 4294967296 ≡ le 4 (drop 5 s) = omega (arith, eight, four 1) in rw (low, high)
-
-  -- a float tells the bits that were there
-  double-told : valueNumbers (double (le 8 (drop 1 s))) ≡ accept (7 ∷ le 4 (drop 1 s) ∷ le 4 (drop 5 s) ∷ [])
-  double-told = double-bits (le 8 (drop 1 s)) (le-lt 8 (drop 1 s) (rest-bytes 1)) ∙ in-words
-
-  float-told : valueNumbers (single (le 4 (drop 1 s))) ≡ accept (14 ∷ le 4 (drop 1 s) ∷ 0 ∷ [])
-  float-told = single-bits (le 4 (drop 1 s)) (four 1)
-
   -- EACH READING'S WORDS
 
   -- an integer's, of w bytes
   integer-said : {t n : ℕ} (w : ℕ) → w ≤ 8 → t < 21 → OfType s t n → IntegerOf t w
       → Said (ValueSays s) (wordsOf valueShape (inTwo t (extended (signed w (drop 1 s)))))
-  integer-said w few known b i = let x = extended-small w (drop 1 s) (rest-bytes 1) few in (omega arith, (λ e. omega arith), integer b i refl)
+  integer-said w few known b i = let x = extended-small w (drop 1 s) (rest-bytes s bytes 1) few in (omega arith, (λ e. omega arith), integer b i refl)
 
   -- a float's, whichever case its bits are read as
   double-said : {n : ℕ} (v : Value) → OfType s 7 n → double (le 8 (drop 1 s)) ≡ v → Said (ValueSays s) (wordsOf valueShape (valueNumbers v))
   double-said v b e =
-      let l = four 1 in let h = four 5 in rw (ap valueNumbers (sym e) ∙ double-told) (omega arith, (λ w. omega arith), says-double b)
+      let l = four s bytes 1 in let h = four s bytes 5 in rw (ap valueNumbers (sym e) ∙ double-told s bytes) (omega arith, (λ w. omega arith), says-double b)
 
   float-said : {n : ℕ} (v : Value) → OfType s 14 n → single (le 4 (drop 1 s)) ≡ v → Said (ValueSays s) (wordsOf valueShape (valueNumbers v))
   float-said v b e =
-      let l = four 1 in rw (ap valueNumbers (sym e) ∙ float-told) (omega arith, (λ w. omega arith), says-float b)
+      let l = four s bytes 1 in rw (ap valueNumbers (sym e) ∙ single-told s bytes) (omega arith, (λ w. omega arith), says-float b)
 
   -- the start and end of bytes
   placed-said : {t n : ℕ} (a : ℕ) → a ≤ 5 → payloadStart t ≡ a → OfType s t n → Placed t → Said (ValueSays s) (0 ∷ t ∷ 0 ∷ a ∷ n ∷ 0 ∷ [])
@@ -115,10 +90,10 @@ module _ (s : List ℕ) (bytes : Bytes s) where
   of v r = ap (λ x. wordsOf valueShape (valueNumbers x)) (means.exactly-when s v .1 r)
 
   of-double : {n : ℕ} → OfType s 7 n → valueWords s ≡ 0 ∷ 7 ∷ 0 ∷ le 4 (drop 1 s) ∷ le 4 (drop 5 s) ∷ 0 ∷ []
-  of-double b = of (double (le 8 (drop 1 s))) (means.double-reads s b) ∙ ap (wordsOf valueShape) double-told
+  of-double b = of (double (le 8 (drop 1 s))) (means.double-reads s b) ∙ ap (wordsOf valueShape) (double-told s bytes)
 
   of-float : {n : ℕ} → OfType s 14 n → valueWords s ≡ 0 ∷ 14 ∷ 0 ∷ le 4 (drop 1 s) ∷ 0 ∷ 0 ∷ []
-  of-float b = of (single (le 4 (drop 1 s))) (means.single-reads s b) ∙ ap (wordsOf valueShape) float-told
+  of-float b = of (single (le 4 (drop 1 s))) (means.single-reads s b) ∙ ap (wordsOf valueShape) (single-told s bytes)
 
   of-integer : {t w n : ℕ} → IntegerOf t w → OfType s t n → valueWords s ≡ wordsOf valueShape (inTwo t (extended (signed w (drop 1 s))))
   of-integer int8 b = of _ (r-int8 b)

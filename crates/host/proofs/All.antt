@@ -10,12 +10,12 @@ use Rattle.many.proofs.Rows.{row-five}
 use Rattle.many.proofs.Means as many
 use Rattle.many.proofs.AllRows as rows
 use Rattle.strip.specs.Shapes.{wordsOf, layerShape, stripBytes}
 use Rattle.lichenhusk.specs.Strip.{allWords, filledAfter}
 use Rattle.lichenhusk.specs.Promises.{AllPromise}
-use Rattle.lichenhusk.specs.Host.{wordsIn, Tells, AllSays, FillsAll}
-use Rattle.lichenhusk.specs.Host.AllSays.{answered, bad-end, no-room, refused}
-use Rattle.lichenhusk.proofs.Carries.{Said, tells}
-use Rattle.lichenhusk.proofs.Exactly.{exactly}
+use Rattle.host.specs.Host.{wordsIn, Tells, AllSays, FillsAll}
+use Rattle.host.specs.Host.AllSays.{answered, bad-end, no-room, refused}
+use Rattle.host.proofs.Carries.{Said, tells}
+use Rattle.host.proofs.Exactly.{exactly}
 
 module _ (d o names ends words : List ℕ) (few : length ends ≤ 4294967296) where
   pub all-said : Said (AllSays d o names ends words) (allWords d o names ends words)

@@ -28,16 +28,16 @@ use Rattle.listing.specs.Meaning.{Listed}
 use Rattle.listing.proofs.Listed.{id-word, start-word, span-word, own-length, span-some, span-ends}
 use Rattle.listing.proofs.Lists as listing
 use Rattle.strip.specs.Shapes.{wordsOf, lookupShape, layerShape, dictionaryShape, nameShape, stripBytes}
 use Rattle.lichenhusk.specs.Strip.{lookupWords, layerWords, listWords, verdictWords, nameAtWords, filledAfter}
 use Rattle.lichenhusk.specs.Promises.{DictionaryPromise, NamePromise, LayerPromise, LookupPromise, ListPromise, EmptyPromise}
-use Rattle.lichenhusk.specs.Host.{word, Tells, DictionarySays, NameSays, LayerSays, LookupSays, Spelled, ListSays, Fills, EmptyTells}
-use Rattle.lichenhusk.specs.Host.DictionarySays.{accepted, refused as dictionary-refused}
-use Rattle.lichenhusk.specs.Host.NameSays.{named, no-entry, refused as name-refused}
-use Rattle.lichenhusk.specs.Host.LayerSays.{accepted as layer-accepted, refused as layer-refused}
-use Rattle.lichenhusk.specs.Host.LookupSays.{found, absent, refused as lookup-refused}
-use Rattle.lichenhusk.specs.Host.Spelled.{spelled}
-use Rattle.lichenhusk.specs.Host.ListSays.{listed, no-length, no-room, refused as list-refused}
-use Rattle.lichenhusk.proofs.Carries.{Fits, Said, tells}
+use Rattle.host.specs.Host.{word, Tells, DictionarySays, NameSays, LayerSays, LookupSays, Spelled, ListSays, Fills, EmptyTells}
+use Rattle.host.specs.Host.DictionarySays.{accepted, refused as dictionary-refused}
+use Rattle.host.specs.Host.NameSays.{named, no-entry, refused as name-refused}
+use Rattle.host.specs.Host.LayerSays.{accepted as layer-accepted, refused as layer-refused}
+use Rattle.host.specs.Host.LookupSays.{found, absent, refused as lookup-refused}
+use Rattle.host.specs.Host.Spelled.{spelled}
+use Rattle.host.specs.Host.ListSays.{listed, no-length, no-room, refused as list-refused}
+use Rattle.host.proofs.Carries.{Fits, Said, tells}
 
 -- WHAT THE WORDS OF EACH ANSWER SAY
 module _ (d : List ℕ) where

@@ -20,8 +20,8 @@ use Rattle.lookup.specs.ByName as by-name
 use Rattle.many.specs.Many as many
 use Rattle.listing.specs.Words as listing
 use Rattle.strip.specs.Shapes.{bytesOfWords}
 use Rattle.lichenhusk.specs.Strip.{stripAfter}
-use Rattle.lichenhusk.specs.Worked.{Asked, Told, tell, starred}
+use Rattle.host.specs.Worked.{Asked, Told, tell, starred}
 
 pub worked : map (λ (c : Asked × Told). tell (c .0)) starred ≡ map (λ (c : Asked × Told). c .1) starred
 unfolding le bytesOf upTo leadOf tailsOf char textUpTo begins isCut compareOf below same seek

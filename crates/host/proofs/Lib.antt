@@ -1,0 +1,11 @@
+pub mod Worked
+pub mod Bites
+pub mod Carries
+pub mod Tells
+pub mod Exactly
+pub mod All
+pub mod Appended
+pub mod Values
+pub mod Cut
+pub mod Raised
+pub mod Lengths
