@@ -124,6 +124,27 @@ impl Kind {
 }
 
 impl<'bytes> Value<'bytes> {
+    /// The integer, whatever its width; nothing of a value that is none.
+    ///
+    /// A writer may take the least width that holds a number, so that the same field has one width
+    /// in this message and another in the next.
+    ///
+    /// ```
+    /// assert_eq!(lichenhusk::value(&[0x0C, 0xFB])?.integer(), Some(-5));
+    /// assert_eq!(lichenhusk::value(&[0x10, 0xFB, 0x00])?.integer(), Some(251));
+    /// assert_eq!(lichenhusk::value(&[0x04])?.integer(), None);
+    /// # Ok::<(), lichenhusk::Refusal>(())
+    /// ```
+    pub fn integer(self) -> Option<i64> {
+        match self {
+            Value::I8(number) => Some(number.into()),
+            Value::I16(number) => Some(number.into()),
+            Value::I32(number) => Some(number.into()),
+            Value::I64(number) => Some(number),
+            _ => None,
+        }
+    }
+
     /// The value that a strip tells, in the bytes that it was read from.
     fn of(strip: Strip, bytes: &'bytes [u8]) -> Value<'bytes> {
         let bits = strip.bits();

@@ -143,6 +143,7 @@ fn integers_at_their_extremes() {
         ] {
             let bytes = primitive(kind, &number.to_le_bytes()[..width]);
             reads_bits(&bytes, kind, number as u64);
+            assert_eq!(value(&bytes).map(Value::integer), Ok(Some(number)));
         }
     }
 }
@@ -164,6 +165,15 @@ fn integers_keep_their_width() {
     assert_eq!(value(&greatest), Ok(Value::I64(i64::MAX)));
     let above = hex("18 FF FF FF FF 00 00 00 00");
     assert_eq!(value(&above), Ok(Value::I64(0xFFFF_FFFF)));
+}
+
+/// A null, a truth value, a float and a place are no integers, whatever their bits are.
+#[test]
+fn what_is_no_integer() {
+    for bytes in ["00", "04", "38 01 00 00 00", "2C 01 00 00 00", "05 61", P] {
+        let value = value(&hex(bytes)).map(|value| value.integer());
+        assert_eq!(value, Ok(None), "{bytes}");
+    }
 }
 
 #[test]
