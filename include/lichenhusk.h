@@ -2,9 +2,10 @@
  * Lichenhusk: a proved reader of the Variant binary encoding of Apache Parquet.
  *
  * A Variant comes as two buffers: a dictionary of field names (the encoding's
- * "metadata") and a value. These functions read the dictionary and one layer
- * of an object. They do not look into the object's children, but for how long
- * each is, where the fields are listed.
+ * "metadata") and a value. These functions read the dictionary, one layer of an
+ * object, and one value: its number, or where its bytes are. They do not look
+ * into the object's children, but for how long each is, where the fields are
+ * listed; a child that is handed to lichenhusk_value is read as any value.
  *
  * Every function takes whatever bytes its buffers hold, keeps nothing,
  * allocates nothing and ends. It reads only the buffers that it is handed, and
@@ -28,8 +29,9 @@
  *   bytes  0 to 3    the code: one of the numbers of the enum below
  *   bytes  4 to 7    a number: which one, each function says
  *   bytes  8 to 11   the id: the dictionary's entry that is a found field's name
- *   bytes 12 to 15   start
- *   bytes 16 to 19   end (the first byte that no longer belongs)
+ *   bytes 12 to 15   start; of a value that is a number, the low half of its bits
+ *   bytes 16 to 19   end (the first byte that no longer belongs); of such a value,
+ *                    the high half
  *   bytes 20 to 23   the place of a refusal
  *
  * A word that has no use in an answer is 0; on a refusal, all but the code and
@@ -51,15 +53,22 @@
  *       const uint8_t object[] = {0x02, 2, 0, 1, 1, 0, 3, 4, 0x0C, 0xFB};
  *       const uint8_t name[] = {'f', 'l', 'o', 'w'};
  *       uint8_t strip[LICHENHUSK_STRIP_BYTES];
+ *       uint32_t start, end;
  *
  *       switch (lichenhusk_lookup(dict, sizeof dict, object, sizeof object,
  *                                 name, sizeof name, strip, sizeof strip)) {
  *       case LICHENHUSK_OK:
- *           printf("field %u, entry %u, bytes %u to %u\n",
+ *           start = lichenhusk_word(strip, LICHENHUSK_START);
+ *           end = lichenhusk_word(strip, LICHENHUSK_END);
+ *           printf("field %u, entry %u, bytes %u to %u",
  *                  (unsigned) lichenhusk_word(strip, LICHENHUSK_NUMBER),
  *                  (unsigned) lichenhusk_word(strip, LICHENHUSK_ID),
- *                  (unsigned) lichenhusk_word(strip, LICHENHUSK_START),
- *                  (unsigned) lichenhusk_word(strip, LICHENHUSK_END));
+ *                  (unsigned) start, (unsigned) end);
+ *           if (lichenhusk_value(object + start, end - start,
+ *                                strip, sizeof strip) == LICHENHUSK_OK
+ *               && lichenhusk_word(strip, LICHENHUSK_NUMBER) == LICHENHUSK_INT8)
+ *               printf(": %d", (int) lichenhusk_integer(strip));
+ *           printf("\n");
  *           return 0;
  *       case LICHENHUSK_ABSENT:
  *           printf("no such field\n");
@@ -72,9 +81,9 @@
  *       }
  *   }
  *
- * It prints "field 0, entry 0, bytes 8 to 10". The functions are in the archive
- * liblichenhusk.a. `make install PREFIX=..` puts it below a prefix, with this
- * header and a lichenhusk.pc, and then
+ * It prints "field 0, entry 0, bytes 8 to 10: -5". The functions are in the
+ * archive liblichenhusk.a. `make install PREFIX=..` puts it below a prefix, with
+ * this header and a lichenhusk.pc, and then
  *
  *   cc example.c $(pkg-config --cflags --libs lichenhusk) -o example
  *
@@ -123,7 +132,7 @@ enum lichenhusk_word_index {
  * before the dictionary, the dictionary before the object, a header before what
  * it describes, and then entry by entry and field by field: 25 and 26 of each
  * field first, and when all are done, 27 and 28 of each. Of a listing, 43 comes
- * after these, and 41 last.
+ * after these, and 41 last. A value alone gets 50 or 51 and no other, but for 40.
  */
 enum lichenhusk_code {
     /* Accepted, found, or written. */
@@ -199,7 +208,47 @@ enum lichenhusk_code {
     /* Of many names, one has an end that falls below where the name begins, or
      * that passes the run of names. The place: the name, counted from 0 (of more
      * than 4,294,967,296 ends, that number's low 32 bits). */
-    LICHENHUSK_NAMES_END = 45
+    LICHENHUSK_NAMES_END = 45,
+
+    /* The value has no bytes, its header is cut, or its own length passes its
+     * bytes or 4,294,967,295. */
+    LICHENHUSK_VALUE_SHORT = 50,
+    /* The value is of a primitive type that is not known (21 and up). */
+    LICHENHUSK_VALUE_TYPE = 51
+};
+
+/*
+ * The kinds of values: the number of a primitive type, or 256 plus the basic
+ * type of another value.
+ */
+enum lichenhusk_kind {
+    LICHENHUSK_NULL = 0,
+    LICHENHUSK_TRUE = 1,
+    LICHENHUSK_FALSE = 2,
+    LICHENHUSK_INT8 = 3,
+    LICHENHUSK_INT16 = 4,
+    LICHENHUSK_INT32 = 5,
+    LICHENHUSK_INT64 = 6,
+    LICHENHUSK_DOUBLE = 7,
+    LICHENHUSK_DECIMAL4 = 8,
+    LICHENHUSK_DECIMAL8 = 9,
+    LICHENHUSK_DECIMAL16 = 10,
+    LICHENHUSK_DATE = 11,
+    /* Microseconds, in UTC and without a time zone. */
+    LICHENHUSK_TIMESTAMP = 12,
+    LICHENHUSK_TIMESTAMP_NTZ = 13,
+    LICHENHUSK_FLOAT = 14,
+    LICHENHUSK_BINARY = 15,
+    LICHENHUSK_STRING = 16,
+    LICHENHUSK_TIME_NTZ = 17,
+    /* Nanoseconds, in UTC and without a time zone. */
+    LICHENHUSK_TIMESTAMP_NANOS = 18,
+    LICHENHUSK_TIMESTAMP_NTZ_NANOS = 19,
+    LICHENHUSK_UUID = 20,
+
+    LICHENHUSK_SHORT_STRING = 257,
+    LICHENHUSK_OBJECT = 258,
+    LICHENHUSK_LIST = 259
 };
 
 /* A word of a strip that an answer was written to. */
@@ -208,6 +257,21 @@ static inline uint32_t lichenhusk_word(const uint8_t *strip, enum lichenhusk_wor
     const uint8_t *at = strip + 4 * (size_t) word;
     return (uint32_t) at[0] | (uint32_t) at[1] << 8 | (uint32_t) at[2] << 16
            | (uint32_t) at[3] << 24;
+}
+
+/* The 64 bits of the number that lichenhusk_value wrote to a strip. Those of a
+ * double are a double's as they are; those of a float are the low 32. */
+static inline uint64_t lichenhusk_bits(const uint8_t *strip)
+{
+    return (uint64_t) lichenhusk_word(strip, LICHENHUSK_END) << 32
+           | lichenhusk_word(strip, LICHENHUSK_START);
+}
+
+/* The same as a signed integer, for a strip of the kinds INT8 to INT64. */
+static inline int64_t lichenhusk_integer(const uint8_t *strip)
+{
+    uint64_t bits = lichenhusk_bits(strip);
+    return bits >> 63 ? -(int64_t) ~bits - 1 : (int64_t) bits;
 }
 
 /*
@@ -303,6 +367,28 @@ uint32_t lichenhusk_list(const uint8_t *dict, size_t dict_len,
                          const uint8_t *object, size_t object_len,
                          uint32_t *words, size_t words_len,
                          uint8_t *strip, size_t strip_len);
+
+/*
+ * Reads the value that the bytes begin with: a found child, or any other. Bytes
+ * after its own encoding change nothing, so that a child can be handed over as
+ * it was found, up to the object's end. There is no limit of length.
+ *
+ * 0: number is the kind, and start and end are, by the kind:
+ *      NULL, TRUE, FALSE   0 and 0.
+ *      INT8 to INT64       the integer, as 64 bits with its sign extended:
+ *                          lichenhusk_integer.
+ *      DOUBLE              its 64 bits; FLOAT: its 32 bits and 0. Each bit is as
+ *                          it was encoded, of what is not a number too:
+ *                          lichenhusk_bits, to be copied into a double or float.
+ *      all others          a place in the value's bytes: the text of a short
+ *                          string, a binary or a string (after its length), the
+ *                          whole encoding of an object or a list, the payload
+ *                          (after the header byte) of any other primitive.
+ * 50 or 51, with the place 0; or 40. Nothing else is refused: what the bytes of
+ * a place say, whether a text is UTF-8 or a date is one, is not looked at.
+ */
+uint32_t lichenhusk_value(const uint8_t *value, size_t value_len,
+                          uint8_t *strip, size_t strip_len);
 
 /*
  * Writes the empty dictionary, the bytes 01 00 00, to the first three bytes of

@@ -1,5 +1,5 @@
-//! The clock: check and lookup together, the found field's id, UTF-8 alone, many names of one
-//! message, all of its fields, and larger messages, ours and the Rust's, in one process.
+//! The clock: check and lookup together, the found field's id, its value, UTF-8 alone, many names of
+//! one message, all of its fields, and larger messages, ours and the Rust's, in one process.
 //!
 //! `cargo run --profile measured -p bench`; with `-- large`, or another word of `TABLES`, that
 //! table alone
@@ -12,6 +12,7 @@ mod many;
 mod rows;
 mod sides;
 mod texts;
+mod values;
 
 use clock::SAMPLES;
 use large::{FEW_SAMPLES, Line, MANY_BYTES, SIZES};
@@ -19,9 +20,10 @@ use std::process::{Command, exit};
 use std::{env, fs};
 
 /// The tables, in their order, and the word for each.
-const TABLES: [(&str, fn()); 7] = [
+const TABLES: [(&str, fn()); 8] = [
     ("lookup", lookups),
     ("ids", ids_too),
+    ("values", values_read),
     ("text", texts_alone),
     ("many", many_names),
     ("listing", || listings(&listing::SMALLER)),
@@ -48,12 +50,22 @@ The id of the found field, too.
   Rust      VariantMetadata::try_new, VariantObject::try_new and get, then get_entry for the id";
 
 /// The same for the third table.
+const VALUES_LEGEND: &str = "\
+The value of a name, of sixteen fields.
+  ours      lichenhusk::find and value: dictionary check, layer check, lookup and reading
+  Rust      VariantMetadata::try_new, VariantObject::try_new and get, which reads the child
+  alone     lichenhusk::value of a child that was found before
+  R-alone   Variant::try_new_with_metadata of the same, over a dictionary that was checked before
+The ratios are ours to the Rust's. Of texts and of objects the Rust checks what they say as well, and
+ours does not.";
+
+/// The same for the fourth table.
 const TEXT_LEGEND: &str = "\
 UTF-8 alone: a dictionary of one name.
   ours      lichenhusk::dictionary: the whole check of that dictionary
   Rust      std::str::from_utf8 of the name's bytes, and nothing else";
 
-/// The same for the fourth table.
+/// The same for the fifth table.
 const MANY_LEGEND: &str = "\
 Many names of one message, all of them there; each turn asks for others.
   ours      lichenhusk::lookup_all_into: dictionary check, layer check and all lookups, in one call;
@@ -62,7 +74,7 @@ Many names of one message, all of them there; each turn asks for others.
   singly    lichenhusk::lookup of each name, which checks dictionary and layer each time
 The names have twelve letters where nothing else is said.";
 
-/// The same for the fifth table, and for the sixth, which is that of larger messages.
+/// The same for the sixth table, and for the seventh, which is that of larger messages.
 const LISTING_LEGEND: &str = "\
 All fields of one message.
   ours      lichenhusk::list_into: dictionary check, layer check and listing, in one call; the words
@@ -165,6 +177,26 @@ fn ids_too() {
             row.object.len(),
             ours / twice,
             ours / theirs,
+        );
+    }
+}
+
+/// The table of values.
+fn values_read() {
+    println!("{VALUES_LEGEND}\n");
+    println!(
+        "{:<55}{:>7}{:>7}{:>11}{:>11}{:>7}{:>11}{:>11}{:>7}",
+        "row", "dict", "object", "ours", "Rust", "ratio", "alone", "R-alone", "ratio"
+    );
+    for row in values::rows() {
+        let [ours, theirs, alone, their_alone] = values::measured(&row);
+        println!(
+            "{:<55}{:>7}{:>7}{ours:>11.1}{theirs:>11.1}{:>7.2}{alone:>11.1}{their_alone:>11.1}{:>7.2}",
+            row.label,
+            row.dict.len(),
+            row.object.len(),
+            ours / theirs,
+            alone / their_alone,
         );
     }
 }

@@ -160,8 +160,17 @@ fn each_order<const N: usize>(kinds: [Kind; N]) -> impl Iterator<Item = Row> {
     kinds.into_iter().flat_map(both)
 }
 
-/// The row of a kind, with the dictionary in an order.
-pub fn row((label, count, names, fields, asked): Kind, order: Order) -> Row {
+/// The row of a kind, with the dictionary in an order. Each child is an eight-bit integer.
+pub fn row(kind: Kind, order: Order) -> Row {
+    row_of(kind, order, |rank| vec![0x0C, rank as u8])
+}
+
+/// The same with other children, by the ranks of their names.
+pub fn row_of(
+    (label, count, names, fields, asked): Kind,
+    order: Order,
+    child: impl Fn(usize) -> Vec<u8>,
+) -> Row {
     let mut random = Random::seeded(count as u64);
     let names = increasing(&mut random, count, names);
     let mut entries: Vec<usize> = (0..count).collect(); // the entry's name, by its rank
@@ -175,7 +184,7 @@ pub fn row((label, count, names, fields, asked): Kind, order: Order) -> Row {
         Fields::Middle => count / 2..count / 2 + 1,
     };
     let ids = &inverse(&entries)[chosen.clone()];
-    let children: Vec<Vec<u8>> = chosen.clone().map(|rank| vec![0x0C, rank as u8]).collect();
+    let children: Vec<Vec<u8>> = chosen.clone().map(child).collect();
     Row {
         label: format!("{label}, {}", order.label()),
         dict: dictionary_of(&names, &entries, order == Order::Sorted),

@@ -17,7 +17,7 @@ pub fn fixed() -> impl Iterator<Item = Input> {
 }
 
 /// An object of two fields, a null and, after it, a child whose bytes end with the object's.
-fn last_child(child: &[u8]) -> Input {
+pub(crate) fn last_child(child: &[u8]) -> Input {
     let region = [&[0x00], child].concat();
     let shape = object_shape(1, least_width(region.len()), false);
     let object = encode::object(&[0, 1], &[1, 0, region.len()], &region, shape);

@@ -19,7 +19,7 @@
 //! in its order, with the field's own id. So every field of every object is compared, whatever the
 //! listing says. The listing has the same ids and starts, and each child's own length as the Rust
 //! tells it, or is refused with 43 for a child that the Rust refuses: [`listing`](crate::listing) has
-//! that.
+//! that. Each child is read as a value, and [`values`](crate::values) has what must agree of that.
 //!
 //! Of our own answers besides: each function gives the same refusal; an accepted layer's numbers
 //! are those of its header; a lookup's id is that of its field; words after a listing, and all words
@@ -28,6 +28,7 @@
 //! Of larger inputs fewer entries and fields are asked for one by one, since each such question is a
 //! whole check.
 
+use crate::lengths::Values;
 use crate::listing::Listing;
 use crate::many::Many;
 use crate::original::{
@@ -37,6 +38,7 @@ use crate::original::{
 use crate::ours::{Reader, absent, accepted, found, refused};
 use crate::reading::{DictionaryParts, ObjectParts};
 use crate::tally::Tally;
+use crate::values::Readings;
 use crate::{Input, LARGE, shown};
 use lichenhusk::{LIMIT, OK, Strip};
 use parquet_variant::{Variant, VariantMetadata, VariantObject};
@@ -387,6 +389,7 @@ impl<'d, R: Reader> Pair<'_, 'd, R> {
         self.have_bytes()?;
         let fields = self.placed()?;
         self.listing().of(&fields, tally)?;
+        self.readings(&fields, tally)?;
         let lookups = self.lookups(&fields, query)?;
         self.whole(&fields, &lookups, tally)?;
         self.alone(&fields, &lookups, tally)?;
@@ -397,6 +400,19 @@ impl<'d, R: Reader> Pair<'_, 'd, R> {
         tally.together += lookups.len() as u64;
         lookups.iter().for_each(|lookup| lookup.count(tally));
         Ok(())
+    }
+
+    /// Each child is read from its start to the trimmed end, as a lookup hands it back.
+    fn readings(&self, fields: &[Placed], tally: &mut Tally) -> Compared {
+        let readings = Readings {
+            reader: self.reader,
+            values: Values::of(self.metadata, self.bytes),
+        };
+        let end = self.layer.end as usize;
+        fields.iter().try_for_each(|field| {
+            let child = self.bytes.get(field.start..end).unwrap_or_default();
+            readings.of(child, tally)
+        })
     }
 
     fn many(&self) -> Many<'_, R> {

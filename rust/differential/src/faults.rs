@@ -4,7 +4,7 @@ use crate::LARGE;
 use crate::compare::bad_offsets;
 use crate::many::bad_ends;
 use crate::ours::{Reader, absent, accepted, found, refused};
-use crate::reading::{BINARY, ObjectParts, STRING, own_length};
+use crate::reading::{BINARY, ObjectParts, PAYLOADS, STRING, own_length};
 use lichenhusk::{ABSENT, OK, Strip, WORDS_PER_FIELD, WORDS_PER_NAME};
 
 /// What a wrong reader does wrong.
@@ -152,10 +152,48 @@ pub enum Fault {
     EndsAfterDictionary,
     /// Says 45 at the last name whose end is bad.
     LastBadEnd,
+    /// Reads an integer of eight bits without its sign: FB is 251.
+    ReadsUnsigned,
+    /// Takes the sign of an integer from its lowest byte.
+    SignOfLowestByte,
+    /// Extends the sign of an integer to 32 bits, not to 64.
+    HighNotExtended,
+    /// Reads integers with their highest byte first.
+    HighestByteFirst,
+    /// Gives the halves of a double in each other's word.
+    SwapsHalves,
+    /// Gives one and the same for all doubles that are not a number.
+    NoNanPayloads,
+    /// Makes a float that is not a number a quiet one.
+    QuietsFloats,
+    /// Drops the sign of a double that is zero.
+    NoNegativeZero,
+    /// Takes a subnormal double for zero.
+    NoSubnormals,
+    /// Gives the bits of a float in the high half.
+    FloatInHigh,
+    /// Says true of false, and false of true.
+    SwapsTruth,
+    /// Begins the place of a binary with its length.
+    BinaryWithLength,
+    /// Begins the place of a short string with its header byte.
+    TextWithHeader,
+    /// Begins the place of an object after its header byte.
+    ObjectWithoutHeader,
+    /// Ends a place with the bytes that it is handed.
+    UntrimmedPlaces,
+    /// Says 50 of an unknown type.
+    UnknownIsShort,
+    /// Says 51 of a primitive that is cut.
+    ShortIsUnknown,
+    /// Reads type 21 as a null.
+    UnknownIsNull,
+    /// Says 50 of a string that is not UTF-8, whose bytes are all there.
+    RefusesTexts,
 }
 
 /// Every fault.
-pub const ALL: [Fault; 71] = [
+pub const ALL: [Fault; 90] = [
     Fault::AlwaysShort,
     Fault::AbsentIsFound,
     Fault::AlwaysAbsent,
@@ -227,6 +265,25 @@ pub const ALL: [Fault; 71] = [
     Fault::RoomBeforeLayer,
     Fault::EndsAfterDictionary,
     Fault::LastBadEnd,
+    Fault::ReadsUnsigned,
+    Fault::SignOfLowestByte,
+    Fault::HighNotExtended,
+    Fault::HighestByteFirst,
+    Fault::SwapsHalves,
+    Fault::NoNanPayloads,
+    Fault::QuietsFloats,
+    Fault::NoNegativeZero,
+    Fault::NoSubnormals,
+    Fault::FloatInHigh,
+    Fault::SwapsTruth,
+    Fault::BinaryWithLength,
+    Fault::TextWithHeader,
+    Fault::ObjectWithoutHeader,
+    Fault::UntrimmedPlaces,
+    Fault::UnknownIsShort,
+    Fault::ShortIsUnknown,
+    Fault::UnknownIsNull,
+    Fault::RefusesTexts,
 ];
 
 /// The greatest numbers of two and of three bytes.
@@ -239,6 +296,25 @@ fn with_places(strip: Strip, bits: usize) -> Strip {
         start: strip.start & bits as u32,
         end: strip.end & bits as u32,
         ..strip
+    }
+}
+
+/// A reading whose number has other bits.
+fn with_bits(strip: Strip, bits: u64) -> Strip {
+    Strip {
+        start: bits as u32,
+        end: (bits >> 32) as u32,
+        ..strip
+    }
+}
+
+/// The lowest bytes of a number, so many, with the sign that a byte has; the others of its 64 bits
+/// are that sign.
+fn extended(bits: u64, width: usize, sign: u8) -> u64 {
+    let others = u64::MAX << (8 * width - 1) << 1;
+    match sign < 0x80 {
+        true => bits & !others,
+        false => bits | others,
     }
 }
 
@@ -456,6 +532,42 @@ impl<R: Reader> Faulty<R> {
         }
     }
 
+    /// The bits that a fault gives for a number, by its kind, its payload and the right ones.
+    fn wrong_bits(&self, kind: u32, payload: &[u8], bits: u64) -> u64 {
+        let width = payload.len();
+        match (self.fault, kind) {
+            (Fault::ReadsUnsigned, 3) => bits & 0xFF,
+            (Fault::SignOfLowestByte, 3..=6) => extended(bits, width, payload[0]),
+            (Fault::HighNotExtended, 3..=5) => bits & 0xFFFF_FFFF,
+            (Fault::HighestByteFirst, 3..=6) => {
+                let swapped = bits.swap_bytes() >> (64 - 8 * width);
+                extended(swapped, width, payload[0])
+            }
+            (Fault::SwapsHalves, 7) | (Fault::FloatInHigh, 14) => bits.rotate_left(32),
+            (Fault::NoNanPayloads, 7) if f64::from_bits(bits).is_nan() => f64::NAN.to_bits(),
+            (Fault::QuietsFloats, 14) if f32::from_bits(bits as u32).is_nan() => bits | 1 << 22,
+            (Fault::NoNegativeZero, 7) if f64::from_bits(bits) == 0.0 => 0,
+            (Fault::NoSubnormals, 7) if f64::from_bits(bits).is_subnormal() => bits & 1 << 63,
+            _ => bits,
+        }
+    }
+
+    /// The place that a fault gives for a value, by the right answer.
+    fn wrong_place(&self, value: &[u8], strip: Strip) -> Strip {
+        let (kind, start) = (strip.number as usize, strip.start as usize);
+        let end = strip.end as usize;
+        match (self.fault, kind) {
+            (Fault::BinaryWithLength, BINARY) => accepted(kind, 1, end),
+            (Fault::TextWithHeader, 257) => accepted(kind, 0, end),
+            (Fault::ObjectWithoutHeader, 258) => accepted(kind, 1, end),
+            (Fault::UntrimmedPlaces, _) => accepted(kind, start, value.len()),
+            (Fault::RefusesTexts, STRING) if std::str::from_utf8(&value[start..end]).is_err() => {
+                refused(50, 0)
+            }
+            _ => strip,
+        }
+    }
+
     /// A refusal of names that a fault gives where the right one is another, or none.
     fn wrong_refusal(&self, dict: &[u8], run: &[u8], ends: &[u32], room: usize) -> Option<Strip> {
         let bad = bad_ends(run, ends).last();
@@ -630,5 +742,23 @@ impl<R: Reader> Reader for Faulty<R> {
             self.wrong_rows(ends.len(), words, &lent);
         }
         self.wrong_layer(object, strip)
+    }
+
+    fn value(&self, value: &[u8]) -> Strip {
+        let strip = self.reader.value(value);
+        match (self.fault, strip.code, strip.number) {
+            (Fault::UnknownIsShort, 51, _) => refused(50, 0),
+            (Fault::ShortIsUnknown, 50, _) if value.first().is_some_and(|byte| byte & 3 == 0) => {
+                refused(51, 0)
+            }
+            (Fault::UnknownIsNull, 51, _) if value[0] >> 2 == 21 => accepted(0, 0, 0),
+            (Fault::SwapsTruth, OK, kind @ 1..=2) => accepted(3 - kind as usize, 0, 0),
+            (_, OK, kind @ (3..=7 | 14)) => {
+                let payload = &value[1..][..PAYLOADS[kind as usize]];
+                with_bits(strip, self.wrong_bits(kind, payload, strip.bits()))
+            }
+            (_, OK, 8..) => self.wrong_place(value, strip),
+            _ => strip,
+        }
     }
 }

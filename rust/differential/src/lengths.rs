@@ -10,6 +10,7 @@
 //! One length it cannot tell: that of a list without elements whose only offset is not 0. It wants
 //! a list's first offset to be 0, and there that is the last, too.
 
+use crate::LARGE;
 use crate::original::{same_value, words};
 use crate::reading::{BINARY, STRING, list_offsets};
 use arrow_schema::ArrowError;
@@ -40,9 +41,16 @@ pub struct Values<'a, 'd> {
     pub few: usize,
 }
 
-impl<'d> Values<'_, 'd> {
+impl<'a, 'd> Values<'a, 'd> {
+    /// The values of an object. Of those of a large one, fewer beginnings are tried: there may be
+    /// very many.
+    pub fn of(metadata: &'a VariantMetadata<'d>, object: &[u8]) -> Values<'a, 'd> {
+        let few = if object.len() > LARGE { 0 } else { FEW };
+        Values { metadata, few }
+    }
+
     /// The value that the Rust reads from bytes, if it accepts it.
-    fn read<'v>(&self, bytes: &'v [u8]) -> Result<Variant<'d, 'v>, ArrowError> {
+    pub fn read<'v>(&self, bytes: &'v [u8]) -> Result<Variant<'d, 'v>, ArrowError> {
         Variant::try_new_with_metadata(self.metadata.clone(), bytes)
     }
 

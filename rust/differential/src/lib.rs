@@ -1,10 +1,11 @@
 //! Lichenhusk and the Rust crate that it was ported from, given the same bytes.
 //!
-//! [`compare`] says what must agree, [`listing`] of a listing and [`many`] of many names at once;
-//! [`ours`] and [`original`] are the two sides, and [`lengths`] has what the Rust tells of children's
-//! lengths; [`fixed`], [`exhaustive`], [`children`], [`long_names`], [`generate`], [`large`] and
-//! [`damage`] make the inputs; [`run`] goes through them, counting in a [`tally`], and has [`shrink`]
-//! make an input that disagrees as small as it can.
+//! [`compare`] says what must agree, [`listing`] of a listing, [`many`] of many names at once and
+//! [`values`] of a value that is read; [`ours`] and [`original`] are the two sides, and [`lengths`]
+//! has what the Rust tells of children's lengths; [`fixed`], [`exhaustive`], [`children`],
+//! [`extremes`], [`long_names`], [`generate`], [`large`] and [`damage`] make the inputs; [`run`] goes
+//! through them, counting in a [`tally`], and has [`shrink`] make an input that disagrees as small as
+//! it can.
 //! [`replay`] writes answers of the Rust's down, to be asked again where it is not at hand.
 
 pub mod children;
@@ -12,6 +13,7 @@ pub mod compare;
 pub mod damage;
 pub mod encode;
 pub mod exhaustive;
+pub mod extremes;
 pub mod faults;
 pub mod fixed;
 pub mod generate;
@@ -28,6 +30,7 @@ pub mod replay;
 pub mod run;
 pub mod shrink;
 pub mod tally;
+pub mod values;
 
 /// A dictionary or an object of more bytes is a large one: its places take more than two bytes.
 pub const LARGE: usize = 65_536;

@@ -12,11 +12,11 @@
 //! refuses, whatever it says. What the Rust cannot tell is counted.
 
 use crate::compare::{Compared, Placed, UNWRITTEN, agree, differ};
-use crate::lengths::{FEW, Told, Values};
+use crate::lengths::{Told, Values};
 use crate::ours::{Reader, refused};
 use crate::reading::{Unmeasured, own_length};
+use crate::shown;
 use crate::tally::Tally;
-use crate::{LARGE, shown};
 use lichenhusk::{Strip, WORDS_PER_FIELD};
 use parquet_variant::VariantMetadata;
 
@@ -123,11 +123,7 @@ impl<R: Reader> Listing<'_, '_, R> {
         measured: &Measured,
         tally: &mut Tally,
     ) -> Compared {
-        let values = Values {
-            metadata: self.metadata,
-            // Of a large object, fewer beginnings of each child: there may be very many children.
-            few: if self.object.len() > LARGE { 0 } else { FEW },
-        };
+        let values = Values::of(self.metadata, self.object);
         let Measured { lengths, .. } = measured;
         for (field, &length) in fields.iter().zip(lengths) {
             let child = self.child(field);

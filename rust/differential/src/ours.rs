@@ -24,6 +24,8 @@ pub trait Reader {
         ends: &[u32],
         words: &mut [u32],
     ) -> Strip;
+    /// Kind, and bits or start and end.
+    fn value(&self, value: &[u8]) -> Strip;
 }
 
 /// The archive itself.
@@ -60,6 +62,10 @@ impl Reader for Archive {
         words: &mut [u32],
     ) -> Strip {
         filled(|strip| raw::lookup_all(dict, object, run, ends, words, strip))
+    }
+
+    fn value(&self, value: &[u8]) -> Strip {
+        filled(|strip| raw::value(value, strip))
     }
 }
 

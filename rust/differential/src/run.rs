@@ -12,7 +12,7 @@ use crate::ours::Reader;
 use crate::random::Random;
 use crate::shrink::smallest;
 use crate::tally::{Tally, grouped};
-use crate::{Input, children, large, shown};
+use crate::{Input, children, extremes, large, shown};
 use std::fmt;
 use std::panic::{AssertUnwindSafe, catch_unwind};
 use std::time::{Duration, Instant};
@@ -129,6 +129,9 @@ impl<R: Reader> Run<'_, R> {
         )?;
         self.kind("children of every header byte, whole and cut", |run| {
             children::fixed().try_for_each(|input| run.input(&input))
+        })?;
+        self.kind("children that are numbers, at their extremes", |run| {
+            extremes::inputs().try_for_each(|input| run.input(&input))
         })?;
         self.kind("children generated, and damaged copies", |run| {
             run.generated(run.settings.generated / 4, children::good)

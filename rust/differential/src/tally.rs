@@ -3,6 +3,7 @@
 use crate::LARGE;
 use crate::lengths::Told;
 use crate::reading::{PAYLOADS, Unmeasured};
+use lichenhusk::Strip;
 use std::collections::BTreeMap;
 use std::fmt;
 
@@ -43,6 +44,14 @@ pub struct Tally {
     pub lengths_of_refused: u64,
     /// And the ones whose length the Rust cannot tell.
     pub lengths_untold: u64,
+    /// Values whose readings agree, by their kind.
+    pub values: BTreeMap<u32, u64>,
+    /// Of these, the floats that are not a number.
+    pub not_numbers: u64,
+    /// And the ones that the Rust refuses for what they say.
+    pub values_of_refused: u64,
+    /// Values that both refuse, by our number.
+    pub values_refused: BTreeMap<u32, u64>,
     /// Lookups that found what `get` yields.
     pub found: u64,
     /// Lookups that are absent where `get` yields nothing.
@@ -82,7 +91,37 @@ impl Tally {
         self.lengths_of_refused += u64::from(told == Told::Refuses);
         self.lengths_untold += u64::from(told == Told::Nothing);
     }
+
+    /// Counts a value whose reading agrees.
+    pub fn read(&mut self, reading: Strip) {
+        *self.values.entry(reading.number).or_default() += 1;
+        self.not_numbers += u64::from(match reading.number {
+            7 => f64::from_bits(reading.bits()).is_nan(),
+            14 => f32::from_bits(reading.start).is_nan(),
+            _ => false,
+        });
+    }
 }
+
+/// The cases of a reading, in words, and their kinds.
+const CASES: [(&str, &[u32]); 13] = [
+    ("nulls", &[0]),
+    ("truth values", &[1, 2]),
+    ("integers of 8 bits", &[3]),
+    ("integers of 16 bits", &[4]),
+    ("integers of 32 bits", &[5]),
+    ("integers of 64 bits", &[6]),
+    ("single floats", &[14]),
+    ("double floats", &[7]),
+    (
+        "payloads of other primitives",
+        &[8, 9, 10, 11, 12, 13, 17, 18, 19, 20],
+    ),
+    ("binaries and strings", &[15, 16]),
+    ("short strings", &[257]),
+    ("objects", &[258]),
+    ("lists", &[259]),
+];
 
 /// What is wrong with a child, in words.
 fn in_words(unmeasured: Unmeasured) -> &'static str {
@@ -145,6 +184,16 @@ impl fmt::Display for Tally {
             self.lengths_of_refused,
         )?;
         line("own lengths that the Rust cannot tell", self.lengths_untold)?;
+        line("values read", self.values.values().sum())?;
+        for (case, kinds) in CASES {
+            let count = kinds.iter().filter_map(|kind| self.values.get(kind)).sum();
+            line(&format!("  {case}"), count)?;
+        }
+        line("  of the floats, not a number", self.not_numbers)?;
+        line("  of all, refused by the Rust", self.values_of_refused)?;
+        for (number, count) in &self.values_refused {
+            line(&format!("values refused by both, {number}"), *count)?;
+        }
         line("lookups found", self.found)?;
         line("lookups absent", self.absent)?;
         line(

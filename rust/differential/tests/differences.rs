@@ -4,8 +4,8 @@
 use differential::encode::{ObjectShape, object as object_of, plain_object};
 use differential::exhaustive::{all_bytes, each};
 use differential::fixed::SORTED;
-use lichenhusk::{LIMIT, Refusal};
-use parquet_variant::{MAX_NESTING_DEPTH, VariantMetadata, VariantObject, VariantPath};
+use lichenhusk::{LIMIT, Refusal, Value};
+use parquet_variant::{MAX_NESTING_DEPTH, Variant, VariantMetadata, VariantObject, VariantPath};
 use std::panic::catch_unwind;
 use std::time::{Duration, Instant};
 
@@ -133,6 +133,56 @@ fn children_without_a_length() {
         let refused = Err(Refusal::ChildLength { field: 0 });
         assert_eq!(listed(child), (refused, false), "{child:02X?}");
     }
+}
+
+/// Our reading of a value, by its kind's number, and whether the Rust reads it.
+fn read(value: &[u8]) -> (Result<u32, Refusal>, bool) {
+    let ours = lichenhusk::value(value).map(|value| match value {
+        Value::Bytes { kind, .. } => kind.number(),
+        number => panic!("the Rust refuses no number: {number:?}"),
+    });
+    let metadata = VariantMetadata::try_new(SORTED).unwrap();
+    let theirs = Variant::try_new_with_metadata(metadata, value);
+    (ours, theirs.is_ok())
+}
+
+/// What a value says is not looked at, and nothing but 50 and 51 refused; the Rust refuses these. Of
+/// each kind no shorter value is refused for what it says.
+#[test]
+fn values_that_the_rust_does_not_read() {
+    for (kind, value) in [
+        (8, &b"\x20\x0A\x00\x00\x00\x00"[..]),
+        (9, b"\x24\x13\x00\x00\x00\x00\x00\x00\x00\x00"),
+        (10, &[&[0x28, 0x27][..], &[0; 16]].concat()),
+        (11, b"\x2C\xFF\xFF\xFF\x7F"),
+        (12, b"\x30\xFF\xFF\xFF\xFF\xFF\xFF\xFF\x7F"),
+        (13, b"\x34\xFF\xFF\xFF\xFF\xFF\xFF\xFF\x7F"),
+        (16, b"\x40\x01\x00\x00\x00\x80"),
+        (17, b"\x44\x00\x60\xD7\x1D\x14\x00\x00\x00"),
+        (257, b"\x05\x80"),
+        (258, b"\x02\x01\x00\x00\x00"),
+        (259, b"\x03\x00\x01\x00"),
+    ] {
+        assert_eq!(read(value), (Ok(kind), false), "{kind}");
+    }
+}
+
+/// 50: a value whose own length passes 32 bits is refused though it has all of its bytes, of which
+/// none but the first five are looked at; the Rust reads it. No shorter value shows it.
+#[test]
+fn values_of_four_gibibytes() {
+    let held = u32::MAX - 4;
+    let length = 5 + held as usize;
+    if Vec::<u8>::new().try_reserve_exact(length).is_err() {
+        println!("skipped: there are not so many bytes here");
+        return;
+    }
+    let mut value = vec![0; length];
+    value[..5].copy_from_slice(&[&[0x3C], &held.to_le_bytes()[..]].concat());
+    assert_eq!(length, 1 << 32);
+    assert_eq!(read(&value), (Err(Refusal::ValueShort), true));
+    value[1] -= 1;
+    assert_eq!(read(&value), (Ok(15), true));
 }
 
 /// 10 and 20: the Rust has no limit of length.

@@ -7,7 +7,7 @@ use differential::ours::Archive;
 use differential::reading::Unmeasured;
 use differential::run::{Settings, disagreement, run};
 use differential::tally::Tally;
-use differential::{Input, LARGE, fixed, large};
+use differential::{Input, LARGE, fixed, hex, large};
 use lichenhusk::LIMIT;
 use std::collections::BTreeMap;
 use std::process::Command;
@@ -48,6 +48,7 @@ fn the_archive_passes() {
         assert!(seen.is_some_and(|&seen| seen > 20), "{number}: {seen:?}");
     }
     children_of_every_kind_are_seen(&outcome.tally);
+    values_of_every_kind_are_seen(&outcome.tally);
 }
 
 /// Children of every kind are listed, and listings refused for every cause.
@@ -70,6 +71,21 @@ fn children_of_every_kind_are_seen(tally: &Tally) {
     assert!(tally.listings_apart > 1_000, "{}", tally.listings_apart);
     let (refused, untold) = (tally.lengths_of_refused, tally.lengths_untold);
     assert!(refused > 1_000 && untold > 0, "{refused} and {untold}");
+}
+
+/// Values of every kind are read, and both refusals are seen.
+fn values_of_every_kind_are_seen(tally: &Tally) {
+    for kind in (0..=20).chain(257..=259) {
+        let seen = tally.values.get(&kind);
+        assert!(seen.is_some_and(|&seen| seen > 100), "{kind}: {seen:?}");
+    }
+    for number in [50, 51] {
+        let seen = tally.values_refused.get(&number);
+        assert!(seen.is_some_and(|&seen| seen > 1_000), "{number}: {seen:?}");
+    }
+    let (not_numbers, refused) = (tally.not_numbers, tally.values_of_refused);
+    assert!(not_numbers > 200, "{not_numbers}");
+    assert!(refused > 1_000, "{refused}");
 }
 
 /// How many bytes the input that tells a fault has at most: few, unless the fault is one of length
@@ -101,6 +117,8 @@ fn each_fault_is_told_by_a_small_input() {
         assert_ne!(found.ours, found.theirs, "{fault:?}");
         let of_lengths = asked_of_lengths(fault);
         assert_eq!(found.asked, of_lengths.unwrap_or(&found.asked), "{fault:?}");
+        let of_values = asked_of_values(fault);
+        assert!(found.asked.starts_with(of_values), "{fault:?}: {found}");
     }
 }
 
@@ -122,6 +140,16 @@ fn asked_of_lengths(fault: Fault) -> Option<&'static str> {
     }
 }
 
+/// How the question begins that tells a wrong reading of a value; nothing of another fault.
+fn asked_of_values(fault: Fault) -> &'static str {
+    match fault {
+        Fault::UnknownIsShort | Fault::UnknownIsNull => "a value that is not read",
+        Fault::ShortIsUnknown => "a value that is not read",
+        _ if fault as usize >= Fault::ReadsUnsigned as usize => "to read ",
+        _ => "",
+    }
+}
+
 #[test]
 fn every_fault_is_tried() {
     for (index, fault) in ALL.into_iter().enumerate() {
@@ -130,7 +158,7 @@ fn every_fault_is_tried() {
             "in the order of the enum, none left out"
         );
     }
-    assert_eq!(Fault::LastBadEnd as usize, ALL.len() - 1);
+    assert_eq!(Fault::RefusesTexts as usize, ALL.len() - 1);
 }
 
 /// Of very many fields, the lookup of all their names is told, which stands for the listing.
@@ -175,6 +203,21 @@ fn bytes_that_no_child_has() {
     );
 }
 
+/// What is read wrong, to the byte: a value that tells it.
+#[test]
+fn values_that_tell() {
+    for (fault, value) in [
+        (Fault::ReadsUnsigned, "0C80"),
+        (Fault::BinaryWithLength, "3C00000000"),
+        (Fault::NoNegativeZero, "1C0000000000000080"),
+        (Fault::QuietsFloats, "380000817F"),
+    ] {
+        let object = told(fault).0.object.expect("an object");
+        let child = &object[object.len() - value.len() / 2..];
+        assert_eq!(hex(child), value, "{fault:?}");
+    }
+}
+
 /// What a wrong reader finds for an absent name, to the byte.
 #[test]
 fn absent_as_found() {
@@ -213,6 +256,9 @@ fn a_panic_is_told() {
             _: &[u32],
             _: &mut [u32],
         ) -> lichenhusk::Strip {
+            unreachable!()
+        }
+        fn value(&self, _: &[u8]) -> lichenhusk::Strip {
             unreachable!()
         }
     }

@@ -8,10 +8,12 @@ use differential::lengths::{FEW, Told, Values};
 use differential::long_names::beginnings;
 use differential::many::bad_ends;
 use differential::original::{layer_number, traced, traced_start};
-use differential::ours::{Archive, Reader, refused};
+use differential::ours::{Archive, Reader, accepted, refused};
 use differential::random::Random;
 use differential::reading::{DictionaryParts, ObjectParts, PAYLOADS, Unmeasured, own_length};
-use differential::{Input, LARGE, children, damage, fixed, generate, hex, large, shrink};
+use differential::tally::Tally;
+use differential::values::{Readings, place};
+use differential::{Input, LARGE, children, damage, extremes, fixed, generate, hex, large, shrink};
 use parquet_variant::{VariantMetadata, VariantObject};
 use std::collections::BTreeSet;
 use std::time::Duration;
@@ -310,11 +312,16 @@ fn values_without_a_length() {
     }
 }
 
+/// The last children of inputs.
+fn last_children(inputs: impl Iterator<Item = Input>) -> BTreeSet<Vec<u8>> {
+    let child = |input: Input| input.object.map(|object| object[8..].to_vec());
+    inputs.filter_map(child).collect()
+}
+
 /// Every header byte, with every payload that its type can have and one byte less.
 #[test]
 fn children_of_every_header_byte() {
-    let child = |input: Input| input.object.map(|object| object[8..].to_vec());
-    let all: BTreeSet<Vec<u8>> = children::fixed().filter_map(child).collect();
+    let all = last_children(children::fixed());
     for header in 0..=255_u8 {
         let payload = match header & 3 {
             0 => PAYLOADS.get(header as usize >> 2).copied().unwrap_or(0),
@@ -326,6 +333,83 @@ fn children_of_every_header_byte() {
             assert!(all.contains(&value), "{value:02X?}");
         }
     }
+}
+
+/// Numbers at the ends of their ranges, whole, cut and with bytes after them; of floats, what is not
+/// a number too, quiet and signalling, of either sign.
+#[test]
+fn children_at_their_extremes() {
+    let all = last_children(extremes::inputs());
+    let has = |kind: u8, width: usize, bits: u64| {
+        let value = [&[kind << 2], &bits.to_le_bytes()[..width]].concat();
+        let longer = [&value[..], &[0xFC, 0xFF]].concat();
+        let mut cut = (1..value.len()).map(|end| &value[..end]);
+        let whole = all.contains(&value) && all.contains(&longer);
+        assert!(whole && cut.all(|cut| all.contains(cut)), "{value:02X?}");
+    };
+    for (kind, width) in [(3, 1), (4, 2), (5, 4), (6, 8)] {
+        let greatest = i64::MAX >> (64 - 8 * width);
+        for number in [0, 1, -1, greatest, -greatest - 1] {
+            has(kind, width, number as u64);
+        }
+    }
+    for sign in [0, 1 << 63] {
+        let (infinity, quiet) = (f64::INFINITY.to_bits(), f64::NAN.to_bits());
+        for bits in [0, 1, infinity, infinity | 1, quiet, u64::MAX >> 1] {
+            has(7, 8, sign | bits);
+        }
+    }
+    for sign in [0, 1 << 31] {
+        let (infinity, quiet) = (f32::INFINITY.to_bits(), f32::NAN.to_bits());
+        for bits in [0, 1, infinity, infinity | 1, quiet, u32::MAX >> 1] {
+            has(14, 4, (sign | bits).into());
+        }
+    }
+}
+
+/// The place of each kind of value that has one.
+#[test]
+fn places_of_values() {
+    for (value, kind, start) in [
+        (&b"\x20\x00\x00\x00\x00\x00"[..], 8, 1),
+        (
+            b"\x50\x00\x00\x00\x00\x00\x00\x00\x00\x00\x00\x00\x00\x00\x00\x00\x00",
+            20,
+            1,
+        ),
+        (b"\x3C\x01\x00\x00\x00\xFF", 15, 5),
+        (b"\x40\x00\x00\x00\x00", 16, 5),
+        (b"\x05a", 257, 1),
+        (fixed::OBJECT, 258, 0),
+        (b"\x03\x00\x00", 259, 0),
+    ] {
+        let due = accepted(kind, start, value.len());
+        assert_eq!(place(value[0], value.len()), due, "{value:02X?}");
+        assert_eq!(Archive.value(value), due, "{value:02X?}");
+    }
+}
+
+/// Readings agree of what the Rust accepts, of what it refuses for what it says, and of what has no
+/// length; and each is counted.
+#[test]
+fn readings_that_agree() {
+    let metadata = &VariantMetadata::try_new(fixed::SORTED).unwrap();
+    let readings = Readings {
+        reader: &Archive,
+        values: Values { metadata, few: FEW },
+    };
+    let mut tally = Tally::default();
+    for (value, _) in VALUES {
+        assert_eq!(readings.of(value, &mut tally), Ok(()), "{value:02X?}");
+    }
+    for value in [&b""[..], b"\x54", b"\x0C", b"\x03\x00\x01"] {
+        assert_eq!(readings.of(value, &mut tally), Ok(()), "{value:02X?}");
+    }
+    let read: u64 = tally.values.values().sum();
+    let refused = VALUES.iter().filter(|(_, told)| *told != Told::Accepts);
+    assert_eq!(read, VALUES.len() as u64);
+    assert_eq!(tally.values_of_refused, refused.count() as u64);
+    assert_eq!(tally.values_refused, [(50, 3), (51, 1)].into());
 }
 
 #[test]

@@ -2,9 +2,9 @@
 //! code is proved to meet its definitions.
 //!
 //! A Variant comes as two buffers: a dictionary of field names and a value. This crate checks a
-//! dictionary and one layer of an object, finds a field by its name, or many by theirs, and lists
-//! the fields. It does not look into the children, but for how long each is where they are listed: a
-//! child is handed back as bytes of the object.
+//! dictionary and one layer of an object, finds a field by its name, or many by theirs, lists the
+//! fields, and reads a value. It does not look into the children, but for how long each is where they
+//! are listed: a child is handed back as bytes of the object, which can be read as a value in turn.
 //!
 //! Each call checks what it is lent from the start, and keeps and copies nothing. Any bytes may
 //! be lent; what is wrong with them is a [`Refusal`] with a number and a place. What a C caller
@@ -12,7 +12,7 @@
 //! says how. The functions called are proved; this crate around them is tested.
 //!
 //! ```
-//! use lichenhusk::Message;
+//! use lichenhusk::{Message, Value};
 //!
 //! // A sorted dictionary of "flow" and "roll", and an object that has both.
 //! let dict = b"\x11\x02\x00\x04\x08flowroll";
@@ -21,6 +21,10 @@
 //! let flow = lichenhusk::child(dict, object, b"flow")?;
 //! assert_eq!(flow, Some(&object[8..10]));
 //! assert_eq!(lichenhusk::child(dict, object, b"rol")?, None);
+//!
+//! // The number itself: an eight-bit FB is minus five.
+//! let flow = lichenhusk::find(dict, object, b"flow")?.value()?;
+//! assert_eq!(flow, Some(Value::I8(-5)));
 //!
 //! // Many names, and both buffers are checked once.
 //! let [flow, roll] = Message::new(dict, object).children(["flow", "roll"])?;
@@ -41,10 +45,12 @@ mod message;
 pub mod raw;
 mod refusal;
 mod strip;
+mod value;
 
 pub use message::Message;
 pub use refusal::Refusal;
 pub use strip::Strip;
+pub use value::{Child, Kind, Value, find, value};
 
 /// The most bytes that a dictionary, or an object, may have.
 pub const LIMIT: usize = 16_777_216;

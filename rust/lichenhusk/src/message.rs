@@ -1,6 +1,6 @@
 //! A dictionary and an object, asked together.
 
-use crate::{Field, Found, Layer, Refusal};
+use crate::{Field, Found, Layer, Refusal, Value};
 
 /// A dictionary and an object over it, as they came.
 ///
@@ -73,6 +73,22 @@ impl<'m> Message<'m> {
     /// ```
     pub fn child(self, name: impl AsRef<[u8]>) -> Result<Option<&'m [u8]>, Refusal> {
         crate::child(self.dict, self.object, name.as_ref())
+    }
+
+    /// The value of a name, as [`find`](crate::find()) finds it and [`value`](crate::value()) reads
+    /// it; nothing where there is no such field.
+    ///
+    /// ```
+    /// use lichenhusk::{Message, Value};
+    ///
+    /// let dict = b"\x11\x02\x00\x04\x08flowroll";
+    /// let message = Message::new(dict, b"\x02\x02\x00\x01\x01\x00\x03\x04\x0C\xFB");
+    /// assert_eq!(message.value("flow")?, Some(Value::I8(-5)));
+    /// assert_eq!(message.value("rol")?, None);
+    /// # Ok::<(), lichenhusk::Refusal>(())
+    /// ```
+    pub fn value(self, name: impl AsRef<[u8]>) -> Result<Option<Value<'m>>, Refusal> {
+        crate::find(self.dict, self.object, name.as_ref())?.value()
     }
 
     /// Lists the fields, as [`list`](crate::list()) does.

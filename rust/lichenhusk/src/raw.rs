@@ -75,6 +75,13 @@ unsafe extern "C" {
         strip_len: usize,
     ) -> u32;
 
+    fn lichenhusk_value(
+        value: *const u8,
+        value_len: usize,
+        strip: *mut u8,
+        strip_len: usize,
+    ) -> u32;
+
     fn lichenhusk_empty(room: *mut u8, room_len: usize) -> u32;
 }
 
@@ -173,6 +180,12 @@ pub fn list(dict: &[u8], object: &[u8], words: &mut [u32], strip: &mut [u8]) -> 
             strip.len(),
         )
     }
+}
+
+/// Reads a value; the strip holds its kind, and its bits or start and end.
+pub fn value(value: &[u8], strip: &mut [u8]) -> u32 {
+    // SAFETY: as the head of this module says.
+    unsafe { lichenhusk_value(value.as_ptr(), value.len(), strip.as_mut_ptr(), strip.len()) }
 }
 
 /// Writes the empty dictionary to the first three bytes of a room.

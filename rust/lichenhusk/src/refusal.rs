@@ -9,7 +9,8 @@ use std::fmt;
 /// Of several reasons to refuse, the one given is the first in the order in which bytes are
 /// checked: the ends of names before the dictionary, the dictionary before the object, a header
 /// before what it describes, and then entry by entry and field by field: 25 and 26 of each field
-/// first, and when all are done, 27 and 28 of each. Of a listing, 43 comes after these, and 41 last.
+/// first, and when all are done, 27 and 28 of each. Of a listing, 43 comes after these, and 41 last. A
+/// value that is read gets 50 or 51 and no other.
 ///
 /// ```
 /// let refusal = lichenhusk::dictionary(&[1, 1, 0, 1, 0xFF]).unwrap_err();
@@ -113,6 +114,11 @@ pub enum Refusal {
         /// The first such name.
         name: u32,
     },
+    /// 50: the value has no bytes, its header is cut, or its own length passes its bytes or
+    /// 4,294,967,295.
+    ValueShort,
+    /// 51: the value is of an unknown primitive type.
+    ValueType,
 }
 
 use Refusal::*;
@@ -154,6 +160,8 @@ impl Refusal {
             42 => RoomTooSmall,
             43 => ChildLength { field: place },
             45 => NamesEnd { name: place },
+            50 => ValueShort,
+            51 => ValueType,
             _ => return None,
         })
     }
@@ -198,6 +206,8 @@ impl Refusal {
             RoomTooSmall => 42,
             ChildLength { .. } => 43,
             NamesEnd { .. } => 45,
+            ValueShort => 50,
+            ValueType => 51,
         }
     }
 
@@ -292,6 +302,11 @@ impl fmt::Display for Refusal {
                 to,
                 "the end of name {name} falls below where it begins or passes the run of names"
             ),
+            ValueShort => write!(
+                to,
+                "the value has no bytes, its header is cut, or its own length passes its bytes or 4294967295"
+            ),
+            ValueType => write!(to, "the value is of an unknown primitive type"),
         }
     }
 }

@@ -16,13 +16,13 @@ use crate::{ABSENT, OK, Refusal, STRIP_BYTES};
 pub struct Strip {
     /// What was answered: 0, 1 or the number of a refusal.
     pub code: u32,
-    /// An entry count, a field count or a field, by the function that was asked.
+    /// An entry count, a field count, a field or a value's kind, by the function that was asked.
     pub number: u32,
     /// The dictionary's entry that is the name of a field that was found.
     pub id: u32,
-    /// Where what was found starts.
+    /// Where what was found starts; of a value that is a number, the low half of its bits.
     pub start: u32,
-    /// Where it ends.
+    /// Where it ends; of such a value, the high half.
     pub end: u32,
     /// The place of a refusal.
     pub place: u32,
@@ -47,6 +47,20 @@ impl Strip {
             end: word(4),
             place: word(5),
         }
+    }
+
+    /// The 64 bits of a value that is a number: a double's as they are, a float's in the low half, a
+    /// signed integer's with its sign extended.
+    ///
+    /// ```
+    /// use lichenhusk::{Strip, raw};
+    ///
+    /// let mut bytes = [0; lichenhusk::STRIP_BYTES];
+    /// assert_eq!(raw::value(&[0x0C, 0xFB], &mut bytes), 0);
+    /// assert_eq!(Strip::read(&bytes).bits() as i64, -5);
+    /// ```
+    pub fn bits(self) -> u64 {
+        u64::from(self.end) << 32 | u64::from(self.start)
     }
 
     /// Has a function fill a strip, and reads it.

@@ -1,7 +1,8 @@
 //! The C header says what this crate says: the same numbers, and an example that runs.
 
-use lichenhusk::{ABSENT, LIMIT, OK, Refusal, STRIP_BYTES, WORDS_PER_FIELD, WORDS_PER_NAME};
+use lichenhusk::{ABSENT, Kind, LIMIT, OK, Refusal, STRIP_BYTES, WORDS_PER_FIELD, WORDS_PER_NAME};
 use std::collections::BTreeMap;
+use std::fmt::Debug;
 use std::fs;
 use std::path::{Path, PathBuf};
 use std::process::Command;
@@ -24,9 +25,10 @@ fn constants() -> BTreeMap<String, u32> {
         .collect()
 }
 
-/// The name that a case of [`Refusal`] has in C: its own in capitals, with lines between words.
-fn constant_of(refusal: Refusal) -> String {
-    let case = format!("{refusal:?}");
+/// The name that a case of [`Refusal`] or [`Kind`] has in C: its own in capitals, with lines between
+/// words.
+fn constant_of(case: impl Debug) -> String {
+    let case = format!("{case:?}");
     let case = case.split(' ').next().expect("a name");
     let mut name = String::from("LICHENHUSK");
     for letter in case.chars() {
@@ -62,6 +64,15 @@ fn every_number_is_there() {
     }
     for refusal in (0..100).filter_map(|number| Refusal::of(number, 0)) {
         known.insert(constant_of(refusal), refusal.number());
+    }
+    for (number, kind) in (0..300).filter_map(|number| Some((number, Kind::of(number)?))) {
+        known.insert(constant_of(kind), number);
+    }
+    let read = [
+        "NULL", "TRUE", "FALSE", "INT8", "INT16", "INT32", "INT64", "DOUBLE",
+    ];
+    for (number, kind) in (0..).zip(read).chain([(14, "FLOAT")]) {
+        known.insert(format!("LICHENHUSK_{kind}"), number);
     }
     assert_eq!(constants, known);
 }
@@ -130,7 +141,7 @@ fn printed(name: &str, text: &str) -> String {
 fn the_example_runs() {
     assert_eq!(
         printed("example", &example()),
-        "field 0, entry 0, bytes 8 to 10\n"
+        "field 0, entry 0, bytes 8 to 10: -5\n"
     );
 }
 
@@ -189,6 +200,60 @@ int main(void)
     return 0;
 }
 "#;
+
+/// Integers at their extremes, a double that is not a number, a text, and what is refused.
+const VALUES: &str = r#"
+#include <inttypes.h>
+#include <stdio.h>
+#include "lichenhusk.h"
+
+static uint8_t strip[LICHENHUSK_STRIP_BYTES];
+
+static void integer(const uint8_t *value, size_t length)
+{
+    if (lichenhusk_value(value, length, strip, sizeof strip) == LICHENHUSK_OK)
+        printf("%u: %" PRId64 "\n", (unsigned) lichenhusk_word(strip, LICHENHUSK_NUMBER),
+               lichenhusk_integer(strip));
+}
+
+int main(void)
+{
+    const uint8_t minus_five[] = {0x0C, 0xFB, 0xFF};
+    const uint8_t least[] = {0x18, 0, 0, 0, 0, 0, 0, 0, 0x80};
+    const uint8_t greatest[] = {0x18, 0xFF, 0xFF, 0xFF, 0xFF, 0xFF, 0xFF, 0xFF, 0x7F};
+    const uint8_t nan[] = {0x1C, 1, 0, 0, 0, 0, 0, 0xF0, 0xFF};
+    const uint8_t text[] = {0x11, 'f', 'l', 'o', 'w', 'e', 'r'};
+    const uint8_t unknown[] = {(LICHENHUSK_UUID + 1) << 2};
+
+    integer(minus_five, sizeof minus_five);
+    integer(least, sizeof least);
+    integer(greatest, sizeof greatest);
+    if (lichenhusk_value(nan, sizeof nan, strip, sizeof strip) == LICHENHUSK_OK
+        && lichenhusk_word(strip, LICHENHUSK_NUMBER) == LICHENHUSK_DOUBLE)
+        printf("%016" PRIX64 "\n", lichenhusk_bits(strip));
+    if (lichenhusk_value(text, sizeof text, strip, sizeof strip) == LICHENHUSK_OK
+        && lichenhusk_word(strip, LICHENHUSK_NUMBER) == LICHENHUSK_SHORT_STRING)
+        printf("%u to %u\n", (unsigned) lichenhusk_word(strip, LICHENHUSK_START),
+               (unsigned) lichenhusk_word(strip, LICHENHUSK_END));
+    if (lichenhusk_value(text, 4, strip, sizeof strip) == LICHENHUSK_VALUE_SHORT
+        && lichenhusk_value(unknown, 1, strip, sizeof strip) == LICHENHUSK_VALUE_TYPE)
+        printf("50 and 51\n");
+    return 0;
+}
+"#;
+
+#[test]
+fn values_from_c() {
+    let lines = [
+        "3: -5",
+        "6: -9223372036854775808",
+        "6: 9223372036854775807",
+        "FFF0000000000001",
+        "1 to 5",
+        "50 and 51\n",
+    ];
+    assert_eq!(printed("values", VALUES), lines.join("\n"));
+}
 
 #[test]
 fn a_listing_from_c() {

@@ -18,7 +18,7 @@ const CHILD_UNKNOWN: &str = "02 02 00 01 00 01 02 00 FC";
 type Call = (&'static str, fn(&mut [u8]) -> u32);
 
 /// Each call that fills a strip, on bytes that are accepted.
-fn calls() -> [Call; 6] {
+fn calls() -> [Call; 7] {
     [
         ("lookup", |strip| {
             raw::lookup(&hex(D), &hex(P), b"roll", strip)
@@ -32,11 +32,12 @@ fn calls() -> [Call; 6] {
         ("lookup_all", |strip| {
             raw::lookup_all(&hex(D), &hex(P), b"roll", &[4], &mut [0; 5], strip)
         }),
+        ("value", |strip| raw::value(&[0x0C, 0xFB], strip)),
     ]
 }
 
 /// Each call that fills a strip, on bytes that are refused.
-fn refused_calls() -> [Call; 6] {
+fn refused_calls() -> [Call; 7] {
     [
         ("lookup", |strip| raw::lookup(&[2], &hex(P), b"roll", strip)),
         ("dictionary", |strip| raw::dictionary(&[2], strip)),
@@ -46,6 +47,7 @@ fn refused_calls() -> [Call; 6] {
         ("lookup_all", |strip| {
             raw::lookup_all(&[2], &hex(P), b"roll", &[4], &mut [0; 5], strip)
         }),
+        ("value", |strip| raw::value(&[0xFC], strip)),
     ]
 }
 
@@ -116,12 +118,14 @@ fn every_word_of_each_answer() {
         [0, 2, 0, 7, 10, 0],
         [0, 2, 0, 7, 10, 0],
         [0, 2, 0, 7, 10, 0],
+        [0, 3, 0, -5_i32 as u32, -1_i32 as u32, 0],
     ];
     for ((name, call), answer) in calls().into_iter().zip(answers) {
         assert_eq!(words_of(call), answer, "{name}");
     }
-    for (name, call) in refused_calls() {
-        assert_eq!(words_of(call), [12, 0, 0, 0, 0, 0], "{name}");
+    let numbers = [12, 12, 12, 12, 12, 12, 51];
+    for ((name, call), number) in refused_calls().into_iter().zip(numbers) {
+        assert_eq!(words_of(call), [number, 0, 0, 0, 0, 0], "{name}");
     }
 }
 
@@ -244,7 +248,9 @@ fn empty_slices() {
         raw::lookup_all(&hex(D), &hex(P), &[], &[], &mut [], &mut strip),
         0
     );
+    assert_eq!(raw::value(&[], &mut strip), 50);
     assert_eq!(raw::dictionary(&[], &mut []), 40);
+    assert_eq!(raw::value(&[], &mut []), 40);
     assert_eq!(raw::empty(&mut []), 42);
 }
 

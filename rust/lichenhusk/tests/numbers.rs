@@ -124,6 +124,7 @@ fn each_is_carried_by_every_call() {
             refused
         );
         assert_eq!(lichenhusk::child(&row.dict, object, b"flow").err(), refused);
+        assert_eq!(lichenhusk::find(&row.dict, object, b"flow").err(), refused);
         assert_eq!(lichenhusk::list(&row.dict, object).err(), refused);
         assert_eq!(
             lichenhusk::list_into(&row.dict, object, &mut words).err(),
@@ -135,6 +136,7 @@ fn each_is_carried_by_every_call() {
         );
         assert_eq!(words, [7; 8], "a refusal leaves the words");
         let message = Message::new(&row.dict, object);
+        assert_eq!(message.value("flow").err(), refused);
         assert_eq!(message.lookup_all(&["flow", "roll"]).err(), refused);
         assert_eq!(message.children(["flow", "roll"]).err(), refused);
         if row.object.is_none() {
@@ -165,6 +167,25 @@ fn no_length_of_a_child() {
     assert_eq!(answer, Err(refused));
     assert_eq!(words, [7; 8]);
     assert!(lichenhusk::layer(&dict, &object).is_ok());
+}
+
+/// Of a value that is read: 50 and 51, without a place, and nothing of them in what finds it.
+#[test]
+fn values_that_are_not_read() {
+    for (refused, number, value) in [
+        (Refusal::ValueShort, 50, &[0x0C][..]),
+        (Refusal::ValueType, 51, &[0x54, 0, 0]),
+    ] {
+        assert_eq!((refused.number(), refused.place()), (number, 0));
+        assert_eq!(lichenhusk::value(value), Err(refused));
+        let length = value.len() as u8;
+        let (dict, object) = (hex(D), [&[2, 1, 0, 0, length], value].concat());
+        let found = lichenhusk::find(&dict, &object, b"flow").expect("a good layer");
+        assert_eq!(found.bytes(), Some(value));
+        assert_eq!(found.value(), Err(refused));
+        let message = Message::new(&dict, &object);
+        assert_eq!(message.value("flow"), Err(refused));
+    }
 }
 
 #[test]
@@ -211,6 +232,7 @@ fn numbers_and_cases_match() {
         .chain([31])
         .chain(40..=43)
         .chain([45])
+        .chain(50..=51)
         .collect();
     assert_eq!(numbers, all);
     for number in all {
@@ -229,7 +251,7 @@ fn numbers_and_cases_match() {
 #[test]
 fn each_says_what_it_is() {
     let mut seen = std::collections::HashSet::new();
-    for number in 10..=45 {
+    for number in 10..=51 {
         let Some(refusal) = Refusal::of(number, 6) else {
             continue;
         };
@@ -242,7 +264,7 @@ fn each_says_what_it_is() {
         }
         assert!(seen.insert(words.to_string()), "{text}");
     }
-    assert_eq!(seen.len(), 25);
+    assert_eq!(seen.len(), 27);
     for refusal in [Refusal::DictionaryTooLong, Refusal::ObjectTooLong] {
         let text = refusal.to_string();
         assert!(text.ends_with("is longer than 16777216 bytes"), "{text}");

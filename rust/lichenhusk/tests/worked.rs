@@ -3,7 +3,7 @@
 mod common;
 
 use common::{D, P, hex, padded};
-use lichenhusk::{Dictionary, Field, Found, LIMIT, Layer, Refusal, STRIP_BYTES, raw};
+use lichenhusk::{Dictionary, Field, Found, LIMIT, Layer, Refusal, STRIP_BYTES, Value, raw};
 
 fn dictionary(text: &str) -> Result<Dictionary, Refusal> {
     lichenhusk::dictionary(&hex(text))
@@ -110,6 +110,20 @@ fn the_children_of_p() {
     assert_eq!(child(b"flow"), Ok(Some(&object[8..10])));
     assert_eq!(child(b"roll"), Ok(Some(&object[7..10])));
     assert_eq!(child(b"rol"), Ok(None));
+}
+
+/// Request g): an eight-bit FB is minus five, and roll's 04 is true, whatever follows it.
+#[test]
+fn the_values_of_p() {
+    let (dict, object) = (hex(D), hex(P));
+    let value = |name: &[u8]| lichenhusk::find(&dict, &object, name)?.value();
+    assert_eq!(value(b"flow"), Ok(Some(Value::I8(-5))));
+    assert_eq!(value(b"roll"), Ok(Some(Value::Bool(true))));
+    assert_eq!(value(b"rol"), Ok(None));
+    let mut strip = [0xEE; STRIP_BYTES];
+    assert_eq!(raw::value(&hex("0C FB"), &mut strip), 0);
+    let whole = "00 00 00 00 03 00 00 00 00 00 00 00 FB FF FF FF FF FF FF FF 00 00 00 00";
+    assert_eq!(strip, hex(whole)[..]);
 }
 
 #[test]
