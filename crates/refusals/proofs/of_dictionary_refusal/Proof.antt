@@ -1,7 +1,7 @@
--- `words::of_dictionary_refusal` meets its contract: case by case. Assumes nothing.
+-- `refusals::of_dictionary_refusal` meets its contract: case by case. Assumes nothing.
 use borrow.Author.Needs.{needs}
-use Rattle.words.proofs.of_dictionary_refusal.Statement.{statement}
-use Rattle.words.proofs.of_dictionary_refusal.Tie as tie
+use Rattle.refusals.proofs.of_dictionary_refusal.Statement.{statement}
+use Rattle.refusals.proofs.of_dictionary_refusal.Tie as tie
 
 pub of-dictionary-refusal-spec : {M : Type 1} → statement M
 of-dictionary-refusal-spec =
