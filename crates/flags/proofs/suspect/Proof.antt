@@ -1,9 +1,9 @@
--- `entries::suspect` meets its contract: where no test of the flag holds, none of the row's does. Assumes nothing.
+-- `flags::suspect` meets its contract: where no test of the flag holds, none of the row's does. Assumes nothing.
 use borrow.Author.Tests.{le-leb}
 use Rattle.rules.proofs.Prelude.{_≡_, ap, Bool, false, _&&_, _||_, ℕ, _+_, _-_, _≤_, _<_, arith, needs, ltb, leb, ltb-false, leb-false, _≤?_, _&_, getD}
 use Rattle.rules.proofs.Laws.{neither, either-way}
-use Rattle.entries.proofs.suspect.Statement.{statement}
-use Rattle.entries.proofs.suspect.Tie as tie
+use Rattle.flags.proofs.suspect.Statement.{statement}
+use Rattle.flags.proofs.suspect.Tie as tie
 
 -- What each test of a flag that is down says, in numbers, so that `omega` takes it from the flag of the code, whatever that compares. Of two
 -- tests that do not both hold, one of the differences is not 0.

@@ -1,7 +1,7 @@
--- `entries::flagged` meets its contract: it says no only where no entry is suspect. Assumes nothing.
+-- `flags::flagged` meets its contract: it says no only where no entry is suspect. Assumes nothing.
 use Rattle.rules.proofs.Prelude.{sym, needs, false-true}
-use Rattle.entries.proofs.flagged.Statement.{statement}
-use Rattle.entries.proofs.flagged.Tie as tie
+use Rattle.flags.proofs.flagged.Statement.{statement}
+use Rattle.flags.proofs.flagged.Tie as tie
 
 pub flagged-spec : {M : Type 1} → statement M
 flagged-spec =

@@ -1,10 +1,10 @@
--- `entries::any_suspect` meets its contract: the loop keeps that, as long as nothing was flagged, all entries before i pass. Assumes nothing.
+-- `flags::any_suspect` meets its contract: the loop keeps that, as long as nothing was flagged, all entries before i pass. Assumes nothing.
 use Rattle.rules.proofs.Prelude.{_≡_, _∙_, false, _≤_, _-_, arith, first, each, pass, Fails, each-none, each-more}
 use Rattle.rules.proofs.Laws.{neither}
 use Rattle.dictionary.specs.Dictionary.{entryRules, count as countOf, offset, cuts}
 use Rattle.dictionary.proofs.Laws.{uncut-zero, entry-passes}
-use Rattle.entries.proofs.any_suspect.Statement.{statement}
-use Rattle.entries.proofs.any_suspect.Tie as tie
+use Rattle.flags.proofs.any_suspect.Statement.{statement}
+use Rattle.flags.proofs.any_suspect.Tie as tie
 
 abbrev Inv-loop : tie.InvT-loop
 Inv-loop dict region n w any₀ i₀ from₀ any i from =
