@@ -1,7 +1,7 @@
 // What the Rust says on a line, held against our six numbers, and of many names against our words, too:
 //
 //     accepts COUNT END     child COUNT END     at START END     found FIELD ID START END     absent     refuses NUMBER
-//     rows COUNT END : CODE FIELD ID START END ..
+//     rows COUNT END : CODE FIELD ID START END ..     reads KIND LOW HIGH
 use ask::Answer;
 use cases::expected::ends;
 use cases::expected::has_filled;
@@ -32,6 +32,15 @@ fn found(text: &[u8], a: Answer) -> bool {
         return false;
     }
     two(text, id.next, a.start, a.end)
+}
+
+// Whether the text has the kind of a value and its two words, and no more.
+fn reads(text: &[u8], a: Answer) -> bool {
+    let kind = see(text, 0, a.number);
+    if !kind.same {
+        return false;
+    }
+    two(text, kind.next, a.start, a.end)
 }
 
 // Whether the four words between code and place are 0.
@@ -65,6 +74,9 @@ fn accepted(verb: &[u8], rest: &[u8], a: Answer) -> bool {
     }
     if a.id != 0 {
         return false;
+    }
+    if check::same(verb, b"reads") {
+        return reads(rest, a);
     }
     if check::same(verb, b"accepts") {
         return two(rest, 0, a.number, a.end);

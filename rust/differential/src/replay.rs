@@ -4,14 +4,18 @@
 //! in rust/README.md. Nothing of our side goes into a line.
 
 use crate::damage::damaged;
+use crate::extremes;
 use crate::fixed;
 use crate::generate::good;
+use crate::lengths::{FEW, Values};
 use crate::original::{
     Reasons, dictionary_number, layer_number, place_in, told, traced, traced_start,
 };
 use crate::random::Random;
+use crate::reading::ObjectParts;
+use crate::values::said_by;
 use crate::{Input, hex};
-use lichenhusk::{LIMIT, WORDS_PER_NAME, run_of};
+use lichenhusk::{LIMIT, OK, Strip, WORDS_PER_NAME, run_of};
 use parquet_variant::{VariantMetadata, VariantObject};
 use std::collections::{BTreeMap, BTreeSet};
 use std::fmt;
@@ -34,6 +38,9 @@ const MOST_NAMES: usize = 3;
 /// Inputs that are drawn before each class may have one line more.
 const ROUND: usize = 3_000;
 
+/// Lines of each class out of the numbers at the ends of their ranges.
+const AT_FIRST: usize = 2;
+
 /// Rounds before giving up.
 const ROUNDS: usize = 200;
 
@@ -42,6 +49,9 @@ pub fn lines(seed: u64, most: usize) -> Vec<String> {
     let mut chosen = Chosen::new(most);
     for input in fixed::inputs() {
         chosen.take(&input, usize::MAX);
+    }
+    for input in extremes::inputs() {
+        chosen.take(&input, AT_FIRST);
     }
     let mut random = Random::seeded(seed);
     for draw in 0..ROUNDS * ROUND {
@@ -119,6 +129,8 @@ enum Says {
     Absent,
     /// Many names of an object: its field count and trimmed end, and what is said to each name.
     Rows(usize, usize, Vec<Says>),
+    /// A value: its kind, and its bits' two words or the start and end of its bytes.
+    Value(u32, u32, u32),
     /// Refused, by our number.
     Refused(u32),
 }
@@ -137,6 +149,7 @@ impl fmt::Display for Says {
                 write!(to, "rows {count} {end} :")?;
                 rows.iter().try_for_each(|row| row.write_row(to))
             }
+            Says::Value(kind, low, high) => write!(to, "reads {kind} {low} {high}"),
             Says::Refused(number) => write!(to, "refuses {number}"),
         }
     }
@@ -175,6 +188,7 @@ impl Answer {
     fn class(&self, input: &Input) -> String {
         let (dict_bits, object_bits) = match (self.kind(), &self.says) {
             ("dictionary", _) => (WIDTH | SORTED, 0),
+            ("value", _) => (0, 0),
             (_, Says::Refused(10..=19)) => (0, 0),
             ("all", says) if says.found() == 0 => (0, 0),
             ("name", _) => (WIDTH | SORTED, 0),
@@ -190,12 +204,20 @@ impl Answer {
         self.case.split(' ').next().unwrap_or_default()
     }
 
+    /// The last byte of a value, in hex, where it is a number: its sign, and of a float most of its
+    /// exponent.
+    fn highest_byte(&self) -> Option<&str> {
+        let is_number = matches!(self.says, Says::Value(3..=7 | 14, _, _));
+        is_number.then(|| &self.case[self.case.len() - 2..])
+    }
+
     /// The case of the answer, with the number if it is a refusal.
     fn answered(&self) -> String {
         let whole = format!("{:?}", self.says);
         match &self.says {
             Says::Refused(_) => whole,
             Says::Rows(_, _, rows) => format!("{} of {}", self.says.found(), rows.len()),
+            Says::Value(kind, _, _) => format!("{kind} {:?}", self.highest_byte()),
             _ => whole.split('(').next().unwrap_or_default().to_string(),
         }
     }
@@ -233,7 +255,38 @@ fn answers(input: &Input) -> Vec<Answer> {
         return all;
     }
     all.extend(of_object(dict, object, input.query.as_deref()));
+    all.extend(of_children(dict, object));
     all
+}
+
+/// What is asked of the first child and of the last, up to where the children end: how each is read.
+fn of_children(dict: &[u8], object: &[u8]) -> Vec<Answer> {
+    let parts = ObjectParts::of(object);
+    let starts = parts.and_then(|parts| parts.starts(object));
+    let (Ok(metadata), Some(starts)) = (VariantMetadata::try_new(dict), starts) else {
+        return vec![];
+    };
+    let values = Values {
+        metadata: &metadata,
+        few: FEW,
+    };
+    let answer = |&start: &usize| {
+        let bytes = object.get(start..)?;
+        let case = format!("value {}", hex(bytes));
+        let says = match said_by(values, bytes)? {
+            Strip {
+                code: OK,
+                number,
+                start,
+                end,
+                ..
+            } => Says::Value(number, start, end),
+            refusal => Says::Refused(refusal.code),
+        };
+        Some(Answer { case, says })
+    };
+    let ends = [starts.first(), starts.last()];
+    ends.into_iter().flatten().filter_map(answer).collect()
 }
 
 /// What is asked of an object.

@@ -21,6 +21,7 @@ use crate::ours::{Reader, accepted, refused};
 use crate::reading::{BINARY, STRING, Unmeasured, own_length};
 use crate::shown;
 use crate::tally::Tally;
+use arrow_schema::ArrowError;
 use lichenhusk::{Kind, Strip};
 use parquet_variant::{Variant, VariantBuilder};
 
@@ -65,14 +66,31 @@ impl<R: Reader> Readings<'_, '_, R> {
     fn refused(&self, bytes: &[u8], why: Unmeasured, ours: Strip, tally: &mut Tally) -> Compared {
         let number = if why == Unmeasured::Unknown { 51 } else { 50 };
         agree("a value that is not read", ours, refused(number, 0))?;
-        let is_it = |said: &str| said.contains("unknown primitive type") == (number == 51);
         match self.values.read(bytes) {
-            Err(error) if is_it(words(&error)) && !self.values.takes(bytes) => {
+            Err(error) if refusal_of(&error) == number && !self.values.takes(bytes) => {
                 Tally::refuse(&mut tally.values_refused, number);
                 Ok(())
             }
             theirs => differ(&format!("not to read {}", shown(bytes)), ours, theirs),
         }
+    }
+}
+
+/// What the Rust says to the value that bytes begin with: what is due to it, a refusal with our number
+/// for it included. Nothing where it refuses the value for what its bytes say.
+pub fn said_by(values: Values, bytes: &[u8]) -> Option<Strip> {
+    match values.read(bytes) {
+        Ok(value) => told_by(&value, bytes).ok(),
+        Err(_) if values.takes(bytes) => None,
+        Err(error) => Some(refused(refusal_of(&error), 0)),
+    }
+}
+
+/// Our number for what the Rust does not read, whatever its bytes say.
+fn refusal_of(error: &ArrowError) -> u32 {
+    match words(error).contains("unknown primitive type") {
+        true => 51,
+        false => 50,
     }
 }
 

@@ -31,6 +31,7 @@ fn ours(case: &str) -> (Strip, Vec<u32>) {
         ["dictionary", d] => Archive.dictionary(&bytes(d)),
         ["name", d, n] => Archive.name(&bytes(d), number(n) as usize),
         ["layer", d, o] => Archive.layer(&bytes(d), &bytes(o)),
+        ["value", v] => Archive.value(&bytes(v)),
         ["lookup", d, o, name] => Archive.lookup(&bytes(d), &bytes(o), &bytes(name)),
         ["all", d, o, run, room, ref ends @ ..] => {
             let (d, o, run) = (bytes(d), bytes(o), bytes(run));
@@ -69,6 +70,7 @@ fn holds(case: &str, says: &str, strip: Strip, lent: &[u32]) -> bool {
         ["found", field, id, start, end] => {
             ours == [0, number(field), number(id), number(start), number(end), 0]
         }
+        ["reads", kind, low, high] => ours == [0, number(kind), 0, number(low), number(high), 0],
         ["absent"] => ours == [1, 0, 0, 0, 0, 0],
         ["refuses", code] => ours == [number(code), 0, 0, 0, 0, place],
         _ => panic!("no answer: {says}"),
@@ -86,7 +88,7 @@ fn kind(case: &str, says: &str) -> String {
 }
 
 /// What lines there must be.
-const KINDS: [&str; 37] = [
+const KINDS: [&str; 40] = [
     "dictionary accepts",
     "dictionary refuses 11",
     "dictionary refuses 12",
@@ -124,6 +126,9 @@ const KINDS: [&str; 37] = [
     "all refuses 25",
     "all refuses 26",
     "all refuses 28",
+    "value reads",
+    "value refuses 50",
+    "value refuses 51",
 ];
 
 #[test]
