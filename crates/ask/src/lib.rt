@@ -6,7 +6,7 @@ ghost use lib.ListN.{length};
 ghost use Rattle.many.specs.Many.{rowsAfter};
 ghost use Rattle.listing.specs.Words.{wordsAfter};
 ghost use Rattle.strip.specs.Shapes.{stripBytes};
-ghost use Rattle.lichenhusk.specs.Strip.{lookupWords, allWords, layerWords, listWords, verdictWords, nameAtWords};
+ghost use Rattle.lichenhusk.specs.Strip.{lookupWords, allWords, layerWords, listWords, verdictWords, nameAtWords, valueWords};
 ghost use Rattle.host.specs.Host.{wordsIn};
 ghost use Rattle.ask.specs.Numbers.{numbersOf};
 use lichenhusk::STRIP;
@@ -90,6 +90,15 @@ pub fn list(dict: &[u8], object: &[u8], words: &mut [u32]) -> Answer
 {
     let mut strip = [0u8; STRIP];
     lichenhusk::lichenhusk_list(dict, object, words, &mut strip);
+    read(&strip)
+}
+
+// A value read as a number, or as the place of its bytes.
+pub fn value(value: &[u8]) -> Answer
+    ensures { λ r. ⌜ numbersOf r ≡ valueWords (now (value .entry)) ⌝ }
+{
+    let mut strip = [0u8; STRIP];
+    lichenhusk::lichenhusk_value(value, &mut strip);
     read(&strip)
 }
 

@@ -1,8 +1,8 @@
 // A question on a line, and its answer:
 //
-//     dictionary D     name D N     layer D O     lookup D O NAME     list D O ROOM     all D O RUN ROOM END ..
+//     dictionary D     name D N     layer D O     lookup D O NAME     list D O ROOM     all D O RUN ROOM END ..     value V
 //
-// D, O, NAME and RUN are bytes in hex, `-` for none; N is an entry's number, ROOM how many words the answer may fill. RUN is the names of
+// D, O, NAME, RUN and V are bytes in hex, `-` for none; N is an entry's number, ROOM how many words the answer may fill. RUN is the names of
 // a lookup of many, one after another, and after ROOM comes where each ends.
 ghost use Prim.Native.Nat.{_≤_};
 ghost use lib.ListN.{length};
@@ -42,7 +42,7 @@ fn reason(n: usize, room: usize) -> bool {
         1 => tell(b"an odd number of hex digits"),
         2 => tell(b"a character that is no hex digit"),
         3 => word_too_long(room),
-        4 => tell(b"the first word is none of dictionary, name, layer, lookup, list, all"),
+        4 => tell(b"the first word is none of dictionary, name, layer, lookup, list, all, value"),
         5 => tell(b"a word is missing"),
         6 => tell(b"a word too many"),
         7 => tell(b"no number below 4294967296"),
@@ -120,14 +120,34 @@ fn last(text: &[u8], next: usize, fault: usize) -> usize {
     TOO_MANY
 }
 
+// The one operand of a text.
+fn only(text: &[u8], out: &mut [u8]) -> Operand
+    ensures { λ r. ⌜ r .len ≤ length (now (out .exit)) ⌝ }
+{
+    let o = bytes_at(text, 0, out);
+    Operand {
+        fault: last(text, o.next, o.fault),
+        len: o.len,
+        next: o.next,
+    }
+}
+
 fn dictionary(text: &[u8], dict: &mut [u8]) -> Outcome {
-    let d = bytes_at(text, 0, dict);
-    let fault = last(text, d.next, d.fault);
-    if fault != 0 {
-        return Outcome::NoCase(fault);
+    let d = only(text, dict);
+    if d.fault != 0 {
+        return Outcome::NoCase(d.fault);
     }
     let n = d.len;
     Outcome::Answered(ask::dictionary(&dict[0..n]))
+}
+
+fn value(text: &[u8], room: &mut [u8]) -> Outcome {
+    let v = only(text, room);
+    if v.fault != 0 {
+        return Outcome::NoCase(v.fault);
+    }
+    let n = v.len;
+    Outcome::Answered(ask::value(&room[0..n]))
 }
 
 fn name(text: &[u8], dict: &mut [u8]) -> Outcome {
@@ -333,7 +353,7 @@ fn all(
     )
 }
 
-// 1 to 6, or 0 for a word that asks nothing.
+// 1 to 7, or 0 for a word that asks nothing.
 fn kind(verb: &[u8]) -> usize {
     if check::same(verb, b"dictionary") {
         return 1;
@@ -352,6 +372,9 @@ fn kind(verb: &[u8]) -> usize {
     }
     if check::same(verb, b"all") {
         return 6;
+    }
+    if check::same(verb, b"value") {
+        return 7;
     }
     0
 }
@@ -377,6 +400,7 @@ pub fn answer(
         4 => lookup(rest, dict, object, query),
         5 => list(rest, dict, object, words),
         6 => all(rest, dict, object, query, ends, words),
+        7 => value(rest, object),
         _ => Outcome::NoCase(UNKNOWN),
     }
 }

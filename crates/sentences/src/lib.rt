@@ -2,9 +2,6 @@
 ghost use Prim.Native.Nat.{_+_, _≤_};
 ghost use lib.ListN.{length};
 ghost use Rattle.fields.specs.Steps.{Over};
-
-mod kinds;
-
 use ask::Answer;
 use print::quoted;
 use print::room::ROOM;
@@ -12,6 +9,9 @@ use print::say;
 use print::tell;
 use print::wide;
 use print::write_hex;
+use speak::counted;
+use speak::part_of;
+use speak::start_of;
 
 // That one of the two is longer than any that the library reads.
 fn above_limit(what: &[u8]) -> bool {
@@ -86,28 +86,19 @@ fn refused(a: Answer) {
     tell(b"\n");
 }
 
-fn counted(n: usize, one: &[u8], more: &[u8]) {
-    say(b"accepted: ", n);
-    if n == 1 {
-        tell(one);
-    } else {
-        tell(more);
-    }
-}
-
 pub fn check_dictionary(dict: &[u8]) {
     let a = ask::dictionary(dict);
     if a.code != 0 {
         refused(a);
         return;
     }
-    counted(a.number, b" name", b" names");
+    counted(b"accepted: ", a.number, b" name", b" names");
     say(b", the end at byte ", a.end);
     tell(b"\n");
 }
 
 fn accepted(a: Answer) {
-    counted(a.number, b" field", b" fields");
+    counted(b"accepted: ", a.number, b" field", b" fields");
     say(b", the value region from byte ", a.start);
     say(b" to byte ", a.end);
     tell(b"\n");
@@ -122,17 +113,6 @@ pub fn check_object(dict: &[u8], object: &[u8]) {
     accepted(a);
 }
 
-// The part of `s` from `start` to `end`; nothing where there is none.
-fn part_of(s: &[u8], start: usize, end: usize) -> &[u8] {
-    if s.len() < end {
-        return &s[0..0];
-    }
-    if end < start {
-        return &s[0..0];
-    }
-    &s[start..end]
-}
-
 pub fn name(dict: &[u8], entry: usize) {
     let a = ask::name(dict, entry);
     if a.code != 0 {
@@ -145,16 +125,6 @@ pub fn name(dict: &[u8], entry: usize) {
     tell(b": ");
     quoted(part_of(dict, a.start, a.end));
     tell(b"\n");
-}
-
-// The first bytes of a value.
-fn start_of(value: &[u8]) {
-    if value.len() <= 16 {
-        write_hex(value);
-        return;
-    }
-    write_hex(&value[0..16]);
-    tell(b" ..");
 }
 
 // What a lookup answers.
@@ -172,7 +142,9 @@ fn found(object: &[u8], a: Answer) {
     say(b" of the dictionary, its value from byte ", a.start);
     say(b" to byte ", a.end);
     tell(b":");
-    start_of(part_of(object, a.start, a.end));
+    let value = part_of(object, a.start, a.end);
+    start_of(value);
+    speak::value(value);
     tell(b"\n");
 }
 
@@ -234,17 +206,6 @@ fn bytes_at(s: &[u8], start: usize, count: usize) -> &[u8] {
     part_of(part_of(s, start, s.len()), 0, count)
 }
 
-// What kind of value a child is, and its own bytes.
-fn child(bytes: &[u8]) {
-    if bytes.len() < 1 {
-        return;
-    }
-    tell(b", ");
-    kinds::kind(bytes[0]);
-    tell(b":");
-    write_hex(bytes);
-}
-
 // A field of a listing over a dictionary that was checked: nothing is checked again.
 fn field(dict: &[u8], h: dictionary::Header, object: &[u8], id: usize, start: usize, span: usize)
     requires { ⌜ Over (now dict) h ⌝ }
@@ -259,7 +220,10 @@ fn field(dict: &[u8], h: dictionary::Header, object: &[u8], id: usize, start: us
     say(b": id ", id);
     say(b", start ", start);
     say(b", span ", span);
-    child(bytes_at(object, start, span));
+    tell(b":");
+    let child = bytes_at(object, start, span);
+    write_hex(child);
+    speak::value(child);
     tell(b"\n");
 }
 

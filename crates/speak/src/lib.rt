@@ -1,0 +1,81 @@
+// A value in words, to standard output: what is here promises safety only.
+mod kinds;
+mod numbers;
+
+use ask::Answer;
+use print::say;
+use print::tell;
+use print::write_hex;
+
+// The part of `s` from `start` to `end`; nothing where there is none.
+pub fn part_of(s: &[u8], start: usize, end: usize) -> &[u8] {
+    if s.len() < end {
+        return &s[0..0];
+    }
+    if end < start {
+        return &s[0..0];
+    }
+    &s[start..end]
+}
+
+// So many of these after some words: one, or more or none.
+pub fn counted(words: &[u8], n: usize, one: &[u8], more: &[u8]) {
+    say(words, n);
+    if n == 1 {
+        tell(one);
+    } else {
+        tell(more);
+    }
+}
+
+// The first bytes in hex.
+pub fn start_of(s: &[u8]) {
+    if s.len() <= 16 {
+        write_hex(s);
+        return;
+    }
+    write_hex(&s[0..16]);
+    tell(b" ..");
+}
+
+// The two words of an answer's number: each has 32 bits.
+fn bits_of(low: usize, high: usize) -> usize {
+    low % 0x1_0000_0000 + high % 0x1_0000_0000 * 0x1_0000_0000
+}
+
+fn read(bytes: &[u8], a: Answer) {
+    let kind = a.number;
+    match kind {
+        0 => {
+            tell(b"null");
+        }
+        1 => {
+            tell(b"true");
+        }
+        2 => {
+            tell(b"false");
+        }
+        3..=7 | 14 => numbers::write(kind, bits_of(a.start, a.end)),
+        _ => kinds::write(kind, part_of(bytes, a.start, a.end)),
+    }
+}
+
+fn meaning(code: usize) -> bool {
+    match code {
+        50 => tell(b"it is cut short, or longer than the u32 range"),
+        _ => tell(b"its primitive type is unknown"),
+    }
+}
+
+// What the value at the start of `bytes` is read as, or why it is not.
+pub fn value(bytes: &[u8]) {
+    let a = ask::value(bytes);
+    if a.code == 0 {
+        tell(b", read as ");
+        read(bytes, a);
+        return;
+    }
+    say(b", refused ", a.code);
+    tell(b": ");
+    meaning(a.code);
+}
