@@ -1,14 +1,16 @@
--- What a host learns of a value: the strip's words, exactly when. Bytes are what a slice has: each is below 256, which is what makes the words
--- fit. Assumes nothing.
-use Rattle.rules.proofs.Prelude.{_≡_, refl, sym, ap, _∙_, _↔_, List, [], _∷_, _++_, ℕ, _+_, _≤_, _<_, arith, length, take, drop, codeOf}
+-- What a host learns of a value: the strip's words, exactly when; that it is read exactly where it has an own length, so that each field of a
+-- listing has a value. Bytes are what a slice has: each is below 256, which is what makes the words fit. Assumes nothing.
+use Rattle.rules.proofs.Prelude.{_≡_, refl, sym, ap, _∙_, _↔_, true, List, [], _∷_, _++_, ℕ, _+_, _*_, _≤_, _<_, arith, le-ltb, length, take, drop, getD, codeOf}
 use Rattle.width.specs.Width.{le}
 use Rattle.width.specs.Limits.{u32Max}
 use Rattle.width.proofs.Laws.{Bytes}
+use Rattle.part.specs.Part.{part}
 use Rattle.number.specs.Signed.{signed, extended}
 use Rattle.number.proofs.Means.{extended-small}
 use Rattle.encoding.specs.declared.Header.{Header}
 use Rattle.encoding.specs.declared.Length.the-variants.{Known}
-use Rattle.encoding.specs.Encoding.{ownLength}
+use Rattle.encoding.specs.Encoding.{isKnown, ownLength}
+use Rattle.encoding.proofs.Appended.{whatever-follows}
 use Rattle.value.specs.declared.Value.{Value}
 use Rattle.value.specs.Reading.{payloadStart, single, double, reading}
 use Rattle.value.specs.Answers.{inTwo, valueNumbers}
@@ -19,14 +21,16 @@ use Rattle.value.specs.Meaning.Reads.{payload as r-payload, after-length as r-a
 use Rattle.value.specs.Meaning.Reads.{no-bytes as r-no-bytes, header-cut as r-cut, past-range as r-range, past-bytes as r-past, no-such-type as r-no-type}
 use Rattle.value.proofs.Means as means
 use Rattle.value.proofs.Floats.{rest-bytes, four, single-told, double-told}
+use Rattle.value.proofs.Measured.{codeRead, read-is}
 use Rattle.value.proofs.Local.{local, stays, cut}
 use Rattle.strip.specs.Shapes.{wordsOf, valueShape, refusalWords, stripBytes}
-use Rattle.lichenhusk.specs.Strip.{valueWords}
-use Rattle.lichenhusk.specs.Promises.{Left, ValuePromise}
-use Rattle.host.specs.Host.{wordsIn, Tells, IntegerOf, ValueSays}
+use Rattle.lichenhusk.specs.Strip.{valueWords, returned}
+use Rattle.lichenhusk.specs.Promises.{Left, ValuePromise, ListPromise}
+use Rattle.host.specs.Host.{word, wordsIn, Tells, IntegerOf, ValueSays}
 use Rattle.host.specs.Host.IntegerOf.{int8, int16, int32, int64}
 use Rattle.host.specs.Host.ValueSays.{null, is-true, is-false, integer, double as says-double, float as says-float, place, short-string, object, list, short, no-such-type}
-use Rattle.host.proofs.Carries.{Said, tells}
+use Rattle.host.proofs.Carries.{Said, first-is, tells}
+use Rattle.host.proofs.Tells.{own-listed}
 use Rattle.host.proofs.Exactly.{exactly}
 use Rattle.host.proofs.Appended.{keeps}
 
@@ -136,3 +140,20 @@ module _ (s strip : List ℕ) {code : ℕ} {after : List ℕ} where
   -- bytes added lift 50 alone
   pub value-kept : (u : List ℕ) → (code ≡ 50 → ⊥) → ValuePromise s strip code after → ValuePromise (s ++ u) strip code after
   value-kept u settled = keeps valueShape strip _ _ (λ c. ap valueNumbers (stays s u (λ e. settled (c ∙ ap (λ v. codeOf (valueNumbers v)) e))))
+
+-- A VALUE IS READ exactly where it has an own length
+module _ (s strip : List ℕ) (enough : stripBytes ≤ length strip) {code : ℕ} {after : List ℕ} (promised : ValuePromise s strip code after) where
+  code-is : code ≡ codeRead (reading s)
+  unfolding returned
+  code-is = promised .returns ∙ rw (le-ltb (length strip) stripBytes enough) (first-is valueShape (valueNumbers (reading s)))
+
+  pub value-read : (code ≡ 0) ↔ (isKnown (ownLength s) ≡ true)
+  value-read = rw code-is (read-is s)
+
+-- so field k of a listing has a value: from its start to the object's end, or by its own bytes alone, whatever follows them
+module _ (strip : List ℕ) (code : ℕ) (after d o w wordsAfter : List ℕ) (promised : ListPromise d o w strip code after wordsAfter) (z : code ≡ 0) where
+  pub value-listed : (k : ℕ) → k < word after 1 → (u room : List ℕ) → stripBytes ≤ length room → {c : ℕ} {left : List ℕ}
+      → ValuePromise (take (getD wordsAfter (3 * k + 2) 0) (part o (getD wordsAfter (3 * k + 1) 0) (word after 4)) ++ u) room c left → c ≡ 0
+  value-listed k p u room enough read =
+      let own = own-listed strip code after d o w wordsAfter promised z k p in
+      let known = whatever-follows (part o (getD wordsAfter (3 * k + 1) 0) (word after 4)) _ own u in value-read _ room enough read .1 (rw known refl)

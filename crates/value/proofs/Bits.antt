@@ -1,43 +1,29 @@
 -- The bits of every float are read back exactly, a NaN's too: those that an answer tells are those that were there. So a float that is read is
 -- never the one NaN of the logic, and every other reading tells its bits as it is. Assumes nothing.
-use Rattle.rules.proofs.Prelude.{_≡_, refl, sym, _∙_, Bool, true, false, not, cond, List, [], _∷_, ℕ, _<_, accept, getD, eqb}
+use Rattle.rules.proofs.Prelude.{_≡_, refl, sym, _∙_, false, not, List, [], _∷_, ℕ, _<_, accept, drop, getD}
 use Prim.Native.Nat.{_^_, _*_}
 use lib.Dec.{T}
 use lib.Ieee.{Format, binary32, binary64, ofBits, toBits, nanBits, isNan, top}
 use lib.Ieee.Bits.{nanBits-is, toBits-ofBits}
+use Rattle.width.specs.Width.{le}
 use Rattle.encoding.specs.declared.Header.{Header}
 use Rattle.encoding.specs.declared.Header.the-variants as header
 use Rattle.encoding.specs.declared.Length.{Length}
 use Rattle.encoding.specs.declared.Length.the-variants as own
 use Rattle.encoding.specs.Encoding.{headerOf, ownLength}
-use Rattle.value.specs.declared.Value.{Value}
 use Rattle.value.specs.Reading.{single, double, primitive, readBy, measured, reading}
 use Rattle.value.specs.Answers.{inTwo, valueNumbers, Numeral}
-
--- what is so of both is so of either
-pub either : (P : Value → Type 0) (b : Bool) {x y : Value} → (b ≡ true → P x) → (b ≡ false → P y) → P (cond b x y)
-either P true p q = p refl
-either P false p q = q refl
+use Rattle.value.proofs.Laws.{by-single, by-double, by-type}
 
 -- NO NAN is read as a float
 number-is : (f : Format) (n : ℕ) → nanBits f n ≡ false → T (not (isNan (ofBits f n)))
 number-is f n e = rw (sym (nanBits-is f n) ∙ e) tt
 
-single-numeral : (n : ℕ) → Numeral (single n)
-unfolding single
-single-numeral n = either Numeral (nanBits binary32 n) (λ e. tt) (λ e. number-is binary32 n e)
-
-double-numeral : (n : ℕ) → Numeral (double n)
-unfolding double
-double-numeral n = either Numeral (nanBits binary64 n) (λ e. tt) (λ e. number-is binary64 n e)
-
 primitive-numeral : (t : ℕ) (s : List ℕ) (n : ℕ) → Numeral (primitive t s n)
-unfolding primitive
 primitive-numeral t s n =
-    either Numeral (eqb t 0) (λ _. tt) (λ _. either Numeral (eqb t 1) (λ _. tt) (λ _. either Numeral (eqb t 2) (λ _. tt)
-    (λ _. either Numeral (eqb t 3) (λ _. tt) (λ _. either Numeral (eqb t 4) (λ _. tt) (λ _. either Numeral (eqb t 5) (λ _. tt)
-    (λ _. either Numeral (eqb t 6) (λ _. tt) (λ _. either Numeral (eqb t 7) (λ _. double-numeral _)
-    (λ _. either Numeral (eqb t 14) (λ _. single-numeral _) (λ _. tt)))))))))
+    by-type Numeral t s n (λ _. tt) (λ _. tt) (λ _. tt) (λ _. tt) (λ _. tt) (λ _. tt) (λ _. tt)
+    (λ _. by-double Numeral (le 8 (drop 1 s)) (λ e. tt) (number-is binary64 _)) (λ _. by-single Numeral (le 4 (drop 1 s)) (λ e. tt) (number-is binary32 _))
+    (λ _ _. tt)
 
 by-numeral : (h : Header) (s : List ℕ) (n : ℕ) → Numeral (readBy h s n)
 unfolding readBy
@@ -62,10 +48,7 @@ kept : (f : Format) (n : ℕ) → n < 2 * top f → nanBits f n ≡ false → to
 kept f n small e = toBits-ofBits f n small (number-is f n e)
 
 pub single-bits : (n : ℕ) → n < 256 ^ 4 → valueNumbers (single n) ≡ accept (14 ∷ n ∷ 0 ∷ [])
-unfolding single
-single-bits n small =
-    either (λ v. valueNumbers v ≡ accept (14 ∷ n ∷ 0 ∷ [])) (nanBits binary32 n) (λ e. refl) (λ e. rw (kept binary32 n small e))
+single-bits n small = by-single (λ v. valueNumbers v ≡ accept (14 ∷ n ∷ 0 ∷ [])) n (λ e. refl) (λ e. rw (kept binary32 n small e))
 
 pub double-bits : (n : ℕ) → n < 256 ^ 8 → valueNumbers (double n) ≡ inTwo 7 n
-unfolding double
-double-bits n small = either (λ v. valueNumbers v ≡ inTwo 7 n) (nanBits binary64 n) (λ e. refl) (λ e. rw (kept binary64 n small e))
+double-bits n small = by-double (λ v. valueNumbers v ≡ inTwo 7 n) n (λ e. refl) (λ e. rw (kept binary64 n small e))

@@ -1,16 +1,20 @@
--- Which bits are a NaN's; and the reading by what the header byte says. Assumes nothing.
-use Rattle.rules.proofs.Prelude.{_≡_, sym, _∙_, true, false, not, List, ℕ, _+_, _*_, _≤_, _<_, arith, ne-eqb, lt-ltb, le-ltb, length, getD}
+-- Which bits are a NaN's; what is so of a primitive, type by type; and the reading by what the header byte says. Assumes nothing.
+use Rattle.rules.proofs.Prelude.{_≡_, refl, sym, _∙_, Bool, true, false, not, cond, List, ℕ, _+_, _*_, _≤_, _<_, arith, eqb, ne-eqb, lt-ltb, le-ltb, length, drop, getD}
 use Prim.Native.Nat.{_%_}
+use borrow.Author.Tests.{eqb-true, eqb-false}
 use lib.Dec.{T}
 use lib.Ieee.{Format, binary32, binary64, ofBits, nanBits, ones, hid, top}
 use lib.Ieee.Bits.{nanBits-above}
+use Rattle.width.specs.Width.{le}
+use Rattle.number.specs.Signed.{signed}
 use Rattle.encoding.specs.declared.Header.{Header}
 use Rattle.encoding.specs.declared.Header.the-variants as header
 use Rattle.encoding.specs.declared.Length.{Length}
 use Rattle.encoding.specs.declared.Length.the-variants.{Known}
 use Rattle.encoding.specs.Encoding.{headerOf, payload, bytesBy, ownLength}
 use Rattle.encoding.proofs.Means.{known}
-use Rattle.value.specs.declared.Value.the-variants.{F32, F32Nan, F64, F64Nan, Bytes}
+use Rattle.value.specs.declared.Value.{Value}
+use Rattle.value.specs.declared.Value.the-variants.{Null, Bool as Truth, I8, I16, I32, I64, F32, F32Nan, F64, F64Nan, Bytes}
 use Rattle.value.specs.Reading.{single, double, payloadStart, primitive, readBy, measured, reading}
 
 -- BITS: without the sign, a NaN's are above those of infinity
@@ -41,7 +45,44 @@ module _ (n : ℕ) where
   unfolding double
   double-nan h = rw (a-nan binary64 n h)
 
--- A PRIMITIVE of none of the nine types that are read as more than a place
+-- what is so of both is so of either
+pub either : (P : Value → Type 0) (b : Bool) {x y : Value} → (b ≡ true → P x) → (b ≡ false → P y) → P (cond b x y)
+either P true p q = p refl
+either P false p q = q refl
+
+-- A FLOAT, by whether its bits are a NaN's
+module _ (P : Value → Type 0) (n : ℕ) where
+  pub by-single : (nanBits binary32 n ≡ true → P (F32Nan n)) → (nanBits binary32 n ≡ false → P (F32 (ofBits binary32 n))) → P (single n)
+  unfolding single
+  by-single = either P (nanBits binary32 n)
+
+  pub by-double : (nanBits binary64 n ≡ true → P (F64Nan n)) → (nanBits binary64 n ≡ false → P (F64 (ofBits binary64 n))) → P (double n)
+  unfolding double
+  by-double = either P (nanBits binary64 n)
+
+-- A PRIMITIVE, type by type
+module _ (P : Value → Type 0) (t : ℕ) (s : List ℕ) (n : ℕ) where
+  pub by-type : (t ≡ 0 → P Null) → (t ≡ 1 → P (Truth true)) → (t ≡ 2 → P (Truth false))
+      → (t ≡ 3 → P (I8 (signed 1 (drop 1 s)))) → (t ≡ 4 → P (I16 (signed 2 (drop 1 s))))
+      → (t ≡ 5 → P (I32 (signed 4 (drop 1 s)))) → (t ≡ 6 → P (I64 (signed 8 (drop 1 s))))
+      → (t ≡ 7 → P (double (le 8 (drop 1 s)))) → (t ≡ 14 → P (single (le 4 (drop 1 s))))
+      → (8 ≤ t → (t ≡ 14 → ⊥) → P (Bytes t (payloadStart t) n)) → P (primitive t s n)
+  unfolding primitive
+  by-type of0 of1 of2 of3 of4 of5 of6 of7 of14 placed =
+      either P (eqb t 0) (λ e. of0 (eqb-true t 0 e)) (λ e0.
+      either P (eqb t 1) (λ e. of1 (eqb-true t 1 e)) (λ e1.
+      either P (eqb t 2) (λ e. of2 (eqb-true t 2 e)) (λ e2.
+      either P (eqb t 3) (λ e. of3 (eqb-true t 3 e)) (λ e3.
+      either P (eqb t 4) (λ e. of4 (eqb-true t 4 e)) (λ e4.
+      either P (eqb t 5) (λ e. of5 (eqb-true t 5 e)) (λ e5.
+      either P (eqb t 6) (λ e. of6 (eqb-true t 6 e)) (λ e6.
+      either P (eqb t 7) (λ e. of7 (eqb-true t 7 e)) (λ e7.
+      either P (eqb t 14) (λ e. of14 (eqb-true t 14 e)) (λ e14.
+      let four : 4 ≤ t = omega (arith, eqb-false t 0 e0, eqb-false t 1 e1, eqb-false t 2 e2, eqb-false t 3 e3) in
+      let eight : 8 ≤ t = omega (arith, eqb-false t 4 e4, eqb-false t 5 e5, eqb-false t 6 e6, eqb-false t 7 e7) in
+      placed eight (eqb-false t 14 e14))))))))))
+
+-- one of none of the nine types that are read as more than a place
 pub other : (t : ℕ) (s : List ℕ) (n : ℕ) {a : ℕ} → (t ≡ 0 → ⊥) → (t ≡ 1 → ⊥) → (t ≡ 2 → ⊥) → (t ≡ 3 → ⊥) → (t ≡ 4 → ⊥) → (t ≡ 5 → ⊥) → (t ≡ 6 → ⊥)
     → (t ≡ 7 → ⊥) → (t ≡ 14 → ⊥) → a ≡ payloadStart t → Bytes t a n ≡ primitive t s n
 unfolding primitive

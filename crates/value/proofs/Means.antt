@@ -1,7 +1,5 @@
 -- A reading, exactly when: each value is read exactly from the bytes that give it in the words of specs/Meaning.antt. Assumes nothing.
 use Rattle.rules.proofs.Prelude.{_≡_, refl, sym, _∙_, _↔_, true, false, Bool, cond, List, ℕ, _≤_, arith, eqb, length, drop, getD}
-use borrow.Author.Tests.{eqb-true, eqb-false}
-use lib.Ieee.{binary32, binary64, nanBits}
 use Rattle.width.specs.Width.{le}
 use Rattle.encoding.specs.declared.Header.{Header}
 use Rattle.encoding.specs.declared.Header.the-variants as header
@@ -18,18 +16,15 @@ use Rattle.value.specs.Reading.{single, double, payloadStart, primitive,
 use Rattle.value.specs.Meaning.{Begins, OfType, Placed, Reads}
 use Rattle.value.specs.Meaning.Reads.{null, is-true, is-false, int8, int16, int32, int64, double as a-double, double-nan, float, float-nan}
 use Rattle.value.specs.Meaning.Reads.{payload, after-length, short-string, object, list, no-bytes, header-cut, past-range, past-bytes, no-such-type}
-use Rattle.value.proofs.Laws.{by-length, by-header, other}
-use Rattle.value.proofs.Bits.{either}
+use Rattle.value.proofs.Laws.{by-single, by-double, by-type, by-length, by-header, other}
 
 -- WHAT IS READ IS SO
 module _ (s : List ℕ) where
   pub double-reads : {n : ℕ} → OfType s 7 n → Reads s (double (le 8 (drop 1 s)))
-  unfolding double
-  double-reads b = either (Reads s) (nanBits binary64 (le 8 (drop 1 s))) (double-nan b) (a-double b)
+  double-reads b = by-double (Reads s) (le 8 (drop 1 s)) (double-nan b) (a-double b)
 
   pub single-reads : {n : ℕ} → OfType s 14 n → Reads s (single (le 4 (drop 1 s)))
-  unfolding single
-  single-reads b = either (Reads s) (nanBits binary32 (le 4 (drop 1 s))) (float-nan b) (float b)
+  single-reads b = by-single (Reads s) (le 4 (drop 1 s)) (float-nan b) (float b)
 
   pub placed-reads : {t n : ℕ} → OfType s t n → Placed t → Reads s (Bytes t (payloadStart t) n)
   unfolding payloadStart
@@ -40,22 +35,12 @@ module _ (s : List ℕ) where
       go false e = payload b p e
 
   primitive-reads : {t n : ℕ} → OfType s t n → Reads s (primitive t s n)
-  unfolding primitive
   primitive-reads {t} {n} b =
-      let R = Reads s in
-      let at : (k : ℕ) → eqb t k ≡ true → OfType s k n = λ k e. rw (eqb-true t k e) at b in
-      either R (eqb t 0) (λ e. null (at 0 e)) (λ e0.
-      either R (eqb t 1) (λ e. is-true (at 1 e)) (λ e1.
-      either R (eqb t 2) (λ e. is-false (at 2 e)) (λ e2.
-      either R (eqb t 3) (λ e. int8 (at 3 e)) (λ e3.
-      either R (eqb t 4) (λ e. int16 (at 4 e)) (λ e4.
-      either R (eqb t 5) (λ e. int32 (at 5 e)) (λ e5.
-      either R (eqb t 6) (λ e. int64 (at 6 e)) (λ e6.
-      either R (eqb t 7) (λ e. double-reads (at 7 e)) (λ e7.
-      either R (eqb t 14) (λ e. single-reads (at 14 e)) (λ e14.
-      let four : 4 ≤ t = omega (arith, eqb-false t 0 e0, eqb-false t 1 e1, eqb-false t 2 e2, eqb-false t 3 e3) in
-      let eight : 8 ≤ t = omega (arith, eqb-false t 4 e4, eqb-false t 5 e5, eqb-false t 6 e6, eqb-false t 7 e7) in
-      placed-reads b (record { from-eight = eight; no-float = eqb-false t 14 e14 }))))))))))
+      let at : (k : ℕ) → t ≡ k → OfType s k n = λ k e. rw e at b in
+      by-type (Reads s) t s n (λ e. null (at 0 e)) (λ e. is-true (at 1 e)) (λ e. is-false (at 2 e))
+      (λ e. int8 (at 3 e)) (λ e. int16 (at 4 e)) (λ e. int32 (at 5 e)) (λ e. int64 (at 6 e))
+      (λ e. double-reads (at 7 e)) (λ e. single-reads (at 14 e))
+      (λ eight other. placed-reads b (record { from-eight = eight; no-float = other }))
 
   by-reads : {n : ℕ} (h : Header) → Begins s h n → Reads s (readBy h s n)
   unfolding readBy
