@@ -1,6 +1,7 @@
 -- What a host learns of a value: the strip's words, exactly when; that it is read exactly where it has an own length, so that each field of a
 -- listing has a value. Bytes are what a slice has: each is below 256, which is what makes the words fit. Assumes nothing.
-use Rattle.rules.proofs.Prelude.{_≡_, refl, sym, ap, _∙_, _↔_, true, List, [], _∷_, _++_, ℕ, _+_, _*_, _≤_, _<_, arith, le-ltb, length, take, drop, getD, codeOf}
+use Rattle.rules.proofs.Prelude.{_≡_, refl, sym, ap, _∙_, _↔_, true, List, [], _∷_, _++_, ℕ, _+_, _*_, _≤_, _<_, arith, le-ltb, length}
+use Rattle.rules.proofs.Prelude.{take, drop, getD, codeOf}
 use Rattle.width.specs.Width.{le}
 use Rattle.width.specs.Limits.{u32Max}
 use Rattle.width.proofs.Laws.{Bytes}
@@ -28,7 +29,8 @@ use Rattle.lichenhusk.specs.Strip.{valueWords, returned}
 use Rattle.lichenhusk.specs.Promises.{Left, ValuePromise, ListPromise}
 use Rattle.host.specs.Host.{word, wordsIn, Tells, IntegerOf, ValueSays}
 use Rattle.host.specs.Host.IntegerOf.{int8, int16, int32, int64}
-use Rattle.host.specs.Host.ValueSays.{null, is-true, is-false, integer, double as says-double, float as says-float, place, short-string, object, list, short, no-such-type}
+use Rattle.host.specs.Host.ValueSays.{null, is-true, is-false, integer, double as says-double, float as says-float, place, short-string}
+use Rattle.host.specs.Host.ValueSays.{object, list, short, no-such-type}
 use Rattle.host.proofs.Carries.{Said, first-is, tells}
 use Rattle.host.proofs.Tells.{own-listed}
 use Rattle.host.proofs.Exactly.{exactly}

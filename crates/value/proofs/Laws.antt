@@ -1,5 +1,6 @@
 -- Which bits are a NaN's; what is so of a primitive, type by type; and the reading by what the header byte says. Assumes nothing.
-use Rattle.rules.proofs.Prelude.{_≡_, refl, sym, _∙_, Bool, true, false, not, cond, List, ℕ, _+_, _*_, _≤_, _<_, arith, eqb, ne-eqb, lt-ltb, le-ltb, length, drop, getD}
+use Rattle.rules.proofs.Prelude.{_≡_, refl, sym, _∙_, Bool, true, false, not, cond, List, ℕ, _+_, _*_, _≤_, _<_, arith}
+use Rattle.rules.proofs.Prelude.{eqb, ne-eqb, lt-ltb, le-ltb, length, drop, getD}
 use Prim.Native.Nat.{_%_}
 use borrow.Author.Tests.{eqb-true, eqb-false}
 use lib.Dec.{T}

@@ -31,17 +31,22 @@ of-value-spec =
     (λ c. rw (c .before .v6 .given .1) at (c .before .before .before .pre))  -- float-to-bits-in-one
     (λ c κs. search needs) (λ c. search needs) (λ c κs. search needs) (λ c. search needs)
     (λ c. rw (c .before .v8 .given .1) at (c .before .before .before .pre))  -- float-to-bits-in-two
-    (λ c κs. search needs) (λ c. search needs) (λ c κs. search needs) (λ c. search needs) (λ c κs. search needs) (λ c. search needs) (λ c κs. search needs) (λ c. search needs) (λ c κs. search needs)
+    (λ c κs. search needs) (λ c. search needs) (λ c κs. search needs) (λ c. search needs) (λ c κs. search needs)
+    (λ c. search needs) (λ c κs. search needs) (λ c. search needs) (λ c κs. search needs)
     (λ c. rw (c .before .enum-told .given .1) (c .answer .ensures))  -- returns
     (λ c. rw (c .before .before .v .given .1) (c .of-truth .ensures))  -- returns-2
     (λ c. let n = c .before .before in
-    rw (n .before .v2 .given .1) (c .in-two .ensures ∙ ap (two 3) (c .before .extended .ensures ∙ ap extended (same w8 (omega arith) _ (record { sfits = n .known-told2 .given .0 .1 })))))  -- returns-3
+    let is = same w8 (omega arith) _ (record { sfits = n .known-told2 .given .0 .1 }) in
+    rw (n .before .v2 .given .1) (c .in-two .ensures ∙ ap (two 3) (c .before .extended .ensures ∙ ap extended is)))  -- returns-3
     (λ c. let n = c .before .before in
-    rw (n .before .v3 .given .1) (c .in-two2 .ensures ∙ ap (two 4) (c .before .extended2 .ensures ∙ ap extended (same w16 (omega arith) _ (record { sfits = n .known-told3 .given .0 .1 })))))  -- returns-4
+    let is = same w16 (omega arith) _ (record { sfits = n .known-told3 .given .0 .1 }) in
+    rw (n .before .v3 .given .1) (c .in-two2 .ensures ∙ ap (two 4) (c .before .extended2 .ensures ∙ ap extended is)))  -- returns-4
     (λ c. let n = c .before .before in
-    rw (n .before .v4 .given .1) (c .in-two3 .ensures ∙ ap (two 5) (c .before .extended3 .ensures ∙ ap extended (same w32 (omega arith) _ (record { sfits = n .known-told4 .given .0 .1 })))))  -- returns-5
+    let is = same w32 (omega arith) _ (record { sfits = n .known-told4 .given .0 .1 }) in
+    rw (n .before .v4 .given .1) (c .in-two3 .ensures ∙ ap (two 5) (c .before .extended3 .ensures ∙ ap extended is)))  -- returns-5
     (λ c. let n = c .before .before in
-    rw (n .before .v5 .given .1) (c .in-two4 .ensures ∙ ap (two 6) (c .before .extended4 .ensures ∙ ap extended (toZ-ofZ {w = w64} (record { sfits = n .known-told5 .given .0 .1 })))))  -- returns-6
+    let is = toZ-ofZ {w = w64} (record { sfits = n .known-told5 .given .0 .1 }) in
+    rw (n .before .v5 .given .1) (c .in-two4 .ensures ∙ ap (two 6) (c .before .extended4 .ensures ∙ ap extended is)))  -- returns-6
     (λ c. rw (c .before .before .v6 .given .1) (c .in-one .ensures))  -- returns-7
     (λ c. rw (c .before .before .v7 .given .1) (c .in-one2 .ensures))  -- returns-8
     (λ c. rw (c .before .before .v8 .given .1) (c .in-two5 .ensures))  -- returns-9

@@ -27,11 +27,19 @@ unpack-u32-spec =
     (tie.spec
     (λ c. search needs) (λ c κs. search needs)
     (λ c. let a = c .before .before .before .before .args in
-    record { is = rw (c .if1 .taken) (unpack-first (a .at) (a .s .now) (c .before .wide .ensures .0)); fits = omega arith; within = rw (c .if1 .taken) (omega arith) })  -- returns
+    record {
+      is = rw (c .if1 .taken) (unpack-first (a .at) (a .s .now) (c .before .wide .ensures .0));
+      fits = omega arith;
+      within = rw (c .if1 .taken) (omega arith);
+    })  -- returns
     (λ c. search needs) (λ c. search needs) (λ c κs. search needs) (λ c. search needs) (λ c. search needs)
     (λ c. let c1 = c .before .before .before .before in
     let a = c1 .before .before .before .args in
-    record { is = rw (c .if2 .taken) (of-two (a .at) (a .s .now) (c1 .wide .ensures .0) (c .before .wide2 .ensures .0)); fits = omega arith; within = rw (c .if2 .taken) (omega arith) })  -- returns-2
+    record {
+      is = rw (c .if2 .taken) (of-two (a .at) (a .s .now) (c1 .wide .ensures .0) (c .before .wide2 .ensures .0));
+      fits = omega arith;
+      within = rw (c .if2 .taken) (omega arith);
+    })  -- returns-2
     (λ c. search needs) (λ c. search needs) (λ c κs. search needs) (λ c. search needs) (λ c. search needs)
     (λ c. let c2 = c .before .before .before .before in
     let c1 = c2 .before .before .before in
