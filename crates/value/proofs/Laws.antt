@@ -1,6 +1,6 @@
 -- Which bits are a NaN's; what is so of a primitive, type by type; and the reading by what the header byte says. Assumes nothing.
-use Rattle.rules.proofs.Prelude.{_≡_, refl, sym, _∙_, Bool, true, false, not, cond, List, ℕ, _+_, _*_, _≤_, _<_, arith}
-use Rattle.rules.proofs.Prelude.{eqb, ne-eqb, lt-ltb, le-ltb, length, drop, getD}
+use Rattle.rules.proofs.Prelude.{_≡_, refl, sym, ap, _∙_, Bool, true, false, not, cond, List, ℕ, _+_, _*_, _≤_, _<_, arith}
+use Rattle.rules.proofs.Prelude.{eqb, lt-ltb, le-ltb, length, drop, getD}
 use Prim.Native.Nat.{_%_}
 use borrow.Author.Tests.{eqb-true, eqb-false}
 use lib.Dec.{T}
@@ -47,7 +47,7 @@ module _ (n : ℕ) where
   double-nan h = rw (a-nan binary64 n h)
 
 -- what is so of both is so of either
-pub either : (P : Value → Type 0) (b : Bool) {x y : Value} → (b ≡ true → P x) → (b ≡ false → P y) → P (cond b x y)
+either : (P : Value → Type 0) (b : Bool) {x y : Value} → (b ≡ true → P x) → (b ≡ false → P y) → P (cond b x y)
 either P true p q = p refl
 either P false p q = q refl
 
@@ -62,6 +62,19 @@ module _ (P : Value → Type 0) (n : ℕ) where
   by-double = either P (nanBits binary64 n)
 
 -- A PRIMITIVE, type by type
+
+-- what is none of the first eight
+least : (t : ℕ) → 0 ≤ t
+least t = omega arith
+
+next : (k t : ℕ) → k ≤ t → (t ≡ k → ⊥) → k + 1 ≤ t
+next k t from e = omega arith
+
+pub from-eight : (t : ℕ) → (t ≡ 0 → ⊥) → (t ≡ 1 → ⊥) → (t ≡ 2 → ⊥) → (t ≡ 3 → ⊥)
+    → (t ≡ 4 → ⊥) → (t ≡ 5 → ⊥) → (t ≡ 6 → ⊥) → (t ≡ 7 → ⊥) → 8 ≤ t
+from-eight t e0 e1 e2 e3 e4 e5 e6 e7 =
+    next 7 t (next 6 t (next 5 t (next 4 t (next 3 t (next 2 t (next 1 t (next 0 t (least t) e0) e1) e2) e3) e4) e5) e6) e7
+
 module _ (P : Value → Type 0) (t : ℕ) (s : List ℕ) (n : ℕ) where
   pub by-type : (t ≡ 0 → P Null) → (t ≡ 1 → P (Truth true)) → (t ≡ 2 → P (Truth false))
       → (t ≡ 3 → P (I8 (signed 1 (drop 1 s)))) → (t ≡ 4 → P (I16 (signed 2 (drop 1 s))))
@@ -79,16 +92,16 @@ module _ (P : Value → Type 0) (t : ℕ) (s : List ℕ) (n : ℕ) where
       either P (eqb t 6) (λ e. of6 (eqb-true t 6 e)) (λ e6.
       either P (eqb t 7) (λ e. of7 (eqb-true t 7 e)) (λ e7.
       either P (eqb t 14) (λ e. of14 (eqb-true t 14 e)) (λ e14.
-      let four : 4 ≤ t = omega (arith, eqb-false t 0 e0, eqb-false t 1 e1, eqb-false t 2 e2, eqb-false t 3 e3) in
-      let eight : 8 ≤ t = omega (arith, eqb-false t 4 e4, eqb-false t 5 e5, eqb-false t 6 e6, eqb-false t 7 e7) in
-      placed eight (eqb-false t 14 e14))))))))))
+      placed
+      (from-eight t (eqb-false t 0 e0) (eqb-false t 1 e1) (eqb-false t 2 e2) (eqb-false t 3 e3) (eqb-false t 4 e4) (eqb-false t 5 e5)
+      (eqb-false t 6 e6) (eqb-false t 7 e7)) (eqb-false t 14 e14))))))))))
 
--- one of none of the nine types that are read as more than a place
-pub other : (t : ℕ) (s : List ℕ) (n : ℕ) {a : ℕ} → (t ≡ 0 → ⊥) → (t ≡ 1 → ⊥) → (t ≡ 2 → ⊥) → (t ≡ 3 → ⊥) → (t ≡ 4 → ⊥) → (t ≡ 5 → ⊥) → (t ≡ 6 → ⊥)
-    → (t ≡ 7 → ⊥) → (t ≡ 14 → ⊥) → a ≡ payloadStart t → Bytes t a n ≡ primitive t s n
-unfolding primitive
-other t s n e0 e1 e2 e3 e4 e5 e6 e7 e14 is =
-    rw (is, ne-eqb t 0 e0, ne-eqb t 1 e1, ne-eqb t 2 e2, ne-eqb t 3 e3, ne-eqb t 4 e4, ne-eqb t 5 e5, ne-eqb t 6 e6, ne-eqb t 7 e7, ne-eqb t 14 e14)
+-- one that is read as a place
+pub placed-is : (t : ℕ) (s : List ℕ) (n : ℕ) {a : ℕ} → 8 ≤ t → (t ≡ 14 → ⊥) → a ≡ payloadStart t → Bytes t a n ≡ primitive t s n
+placed-is t s n {a} least no-float is =
+    by-type (λ v. Bytes t a n ≡ v) t s n (λ e. absurd (omega arith)) (λ e. absurd (omega arith)) (λ e. absurd (omega arith)) (λ e. absurd (omega arith))
+    (λ e. absurd (omega arith)) (λ e. absurd (omega arith)) (λ e. absurd (omega arith)) (λ e. absurd (omega arith)) (λ e. absurd (no-float e))
+    (λ _ _. ap (λ x. Bytes t x n) is)
 
 -- THE READING, by the own length, and by the header where it is known
 module _ (s : List ℕ) where

@@ -1,8 +1,7 @@
 -- Bytes after a value's own length change no reading. Bytes added lift no refusal but that of a cut header and of a length past the bytes; a
 -- value cut anywhere before its own length is refused with 50. Assumes nothing.
-use Rattle.rules.proofs.Prelude.{_≡_, refl, sym, ap, _∙_, Bool, true, false, cond, _⊎_, inl, inr, List, _++_, ℕ, _+_, _≤_, _<_, eqb}
+use Rattle.rules.proofs.Prelude.{_≡_, refl, sym, ap, _∙_, _⊎_, inl, inr, List, _++_, ℕ, _+_, _≤_, _<_}
 use Rattle.rules.proofs.Prelude.{length, List·getD-append, take, drop, take-append-drop, getD}
-use borrow.Author.Tests.{eqb-true}
 use Rattle.width.proofs.Laws.{le-append-at}
 use Rattle.number.proofs.Means.{signed-append-at}
 use Rattle.encoding.specs.declared.Header.{Header}
@@ -16,12 +15,7 @@ use Rattle.encoding.proofs.Cut.{cut-or-longer}
 use Rattle.value.specs.declared.Value.{Value}
 use Rattle.value.specs.declared.Value.the-variants as value
 use Rattle.value.specs.Reading.{single, double, primitive, readBy, measured, reading}
-use Rattle.value.proofs.Laws.{by-length, some-byte, payload-there}
-
--- two choices by the same test are the same where each side is
-alike : (b : Bool) {x x′ y y′ : Value} → (b ≡ true → x ≡ x′) → (b ≡ false → y ≡ y′) → cond b x y ≡ cond b x′ y′
-alike true p q = p refl
-alike false p q = q refl
+use Rattle.value.proofs.Laws.{by-type, placed-is, by-length, some-byte, payload-there}
 
 -- what 50 is of
 of-cut : (s : List ℕ) → ownLength s ≡ Cut → reading s ≡ value.Short
@@ -37,16 +31,12 @@ module _ (s u : List ℕ) where
   primitive-same : (t n : ℕ) → 1 + payload t ≤ length s → primitive t (s ++ u) n ≡ primitive t s n
   unfolding primitive payload
   primitive-same t n there =
-      let at : (k : ℕ) → eqb t k ≡ true → 1 + payload k ≤ length s = λ k e. rw (eqb-true t k e) at there in
-      alike (eqb t 0) (λ e. refl) (λ _.
-      alike (eqb t 1) (λ e. refl) (λ _.
-      alike (eqb t 2) (λ e. refl) (λ _.
-      alike (eqb t 3) (λ e. ap value.I8 (signed-append-at 1 1 s u (at 3 e))) (λ _.
-      alike (eqb t 4) (λ e. ap value.I16 (signed-append-at 2 1 s u (at 4 e))) (λ _.
-      alike (eqb t 5) (λ e. ap value.I32 (signed-append-at 4 1 s u (at 5 e))) (λ _.
-      alike (eqb t 6) (λ e. ap value.I64 (signed-append-at 8 1 s u (at 6 e))) (λ _.
-      alike (eqb t 7) (λ e. ap double (le-append-at 8 1 s u (at 7 e))) (λ _.
-      alike (eqb t 14) (λ e. ap single (le-append-at 4 1 s u (at 14 e))) (λ _. refl)))))))))
+      let at : (k : ℕ) → t ≡ k → 1 + payload k ≤ length s = λ k e. rw e at there in
+      by-type (λ v. primitive t (s ++ u) n ≡ v) t s n (λ e. rw e) (λ e. rw e) (λ e. rw e)
+      (λ e. rw e (ap value.I8 (signed-append-at 1 1 s u (at 3 e)))) (λ e. rw e (ap value.I16 (signed-append-at 2 1 s u (at 4 e))))
+      (λ e. rw e (ap value.I32 (signed-append-at 4 1 s u (at 5 e)))) (λ e. rw e (ap value.I64 (signed-append-at 8 1 s u (at 6 e))))
+      (λ e. rw e (ap double (le-append-at 8 1 s u (at 7 e)))) (λ e. rw e (ap single (le-append-at 4 1 s u (at 14 e))))
+      (λ least no-float. sym (placed-is t (s ++ u) n least no-float refl))
 
   by-same : (h : Header) (n : ℕ) → ((t : ℕ) → header.Primitive t ≡ h → 1 + payload t ≤ length s) → readBy h (s ++ u) n ≡ readBy h s n
   unfolding readBy

@@ -1,5 +1,5 @@
 -- A reading, exactly when: each value is read exactly from the bytes that give it in the words of specs/Meaning.antt. Assumes nothing.
-use Rattle.rules.proofs.Prelude.{_≡_, refl, sym, _∙_, _↔_, true, false, Bool, cond, List, ℕ, _≤_, arith, eqb, length, drop, getD}
+use Rattle.rules.proofs.Prelude.{_≡_, refl, sym, _∙_, _↔_, true, false, Bool, cond, List, ℕ, _≤_, length, drop, getD}
 use Rattle.width.specs.Width.{le}
 use Rattle.encoding.specs.declared.Header.{Header}
 use Rattle.encoding.specs.declared.Header.the-variants as header
@@ -16,7 +16,7 @@ use Rattle.value.specs.Reading.{single, double, payloadStart, primitive,
 use Rattle.value.specs.Meaning.{Begins, OfType, Placed, Reads}
 use Rattle.value.specs.Meaning.Reads.{null, is-true, is-false, int8, int16, int32, int64, double as a-double, double-nan, float, float-nan}
 use Rattle.value.specs.Meaning.Reads.{payload, after-length, short-string, object, list, no-bytes, header-cut, past-range, past-bytes, no-such-type}
-use Rattle.value.proofs.Laws.{by-single, by-double, by-type, by-length, by-header, other}
+use Rattle.value.proofs.Laws.{by-single, by-double, by-type, by-length, by-header, placed-is}
 
 -- WHAT IS READ IS SO
 module _ (s : List ℕ) where
@@ -40,7 +40,7 @@ module _ (s : List ℕ) where
       by-type (Reads s) t s n (λ e. null (at 0 e)) (λ e. is-true (at 1 e)) (λ e. is-false (at 2 e))
       (λ e. int8 (at 3 e)) (λ e. int16 (at 4 e)) (λ e. int32 (at 5 e)) (λ e. int64 (at 6 e))
       (λ e. double-reads (at 7 e)) (λ e. single-reads (at 14 e))
-      (λ eight other. placed-reads b (record { from-eight = eight; no-float = other }))
+      (λ least no-float. placed-reads b (record { from-eight = least; no-float = no-float }))
 
   by-reads : {n : ℕ} (h : Header) → Begins s h n → Reads s (readBy h s n)
   unfolding readBy
@@ -83,10 +83,7 @@ module _ (s : List ℕ) where
 
   placed : {t n : ℕ} (a : ℕ) → OfType s t n → Placed t → payloadStart t ≡ a → reading s ≡ Bytes t a n
   unfolding readBy
-  placed {t} {n} a b p is =
-      let least = p .from-eight in
-      begun b ∙ sym (other t s n (λ e. omega arith) (λ e. omega arith) (λ e. omega arith) (λ e. omega arith) (λ e. omega arith) (λ e. omega arith)
-      (λ e. omega arith) (λ e. omega arith) (p .no-float) (sym is))
+  placed {t} {n} a b p is = begun b ∙ sym (placed-is t s n (p .from-eight) (p .no-float) (sym is))
 
   is-read : (v : Value) → Reads s v → reading s ≡ v
   unfolding readBy primitive single double payloadStart measured

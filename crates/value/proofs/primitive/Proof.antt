@@ -7,7 +7,7 @@ use mir.Facts.{toZ-ofZ}
 use Rattle.encoding.specs.Encoding.{payload}
 use Rattle.value.specs.declared.Value.the-variants.{I8, I16, I32, I64}
 use Rattle.value.specs.Reading.{single, double, primitive}
-use Rattle.value.proofs.Laws.{other}
+use Rattle.value.proofs.Laws.{from-eight, placed-is}
 use Rattle.value.proofs.primitive.Statement.{statement}
 use Rattle.value.proofs.primitive.Tie as tie
 
@@ -41,5 +41,7 @@ primitive-spec =
     (λ c. rw (c .before .before .match .keys9) (c .single .ensures ∙ ap single (c .before .unpack-u32 .ensures .is)))  -- returns-9
     (λ c. let a = c .before .before .before .args in
     let r = c .before .match .rest in
-    other (a .t) (a .s .now) (a .end) (r .0 .0 .0 .0 .0 .0 .0 .0 .1) (r .0 .0 .0 .0 .0 .0 .0 .1) (r .0 .0 .0 .0 .0 .0 .1) (r .0 .0 .0 .0 .0 .1)
-    (r .0 .0 .0 .0 .1) (r .0 .0 .0 .1) (r .0 .0 .1) (r .0 .1) (r .1) (c .payload-start .ensures)))  -- returns-10
+    let least =
+    from-eight (a .t) (r .0 .0 .0 .0 .0 .0 .0 .0 .1) (r .0 .0 .0 .0 .0 .0 .0 .1) (r .0 .0 .0 .0 .0 .0 .1) (r .0 .0 .0 .0 .0 .1)
+    (r .0 .0 .0 .0 .1) (r .0 .0 .0 .1) (r .0 .0 .1) (r .0 .1) in
+    placed-is (a .t) (a .s .now) (a .end) least (r .1) (c .payload-start .ensures)))  -- returns-10
