@@ -13,7 +13,7 @@ read-i16-spec =
     (tie.spec
     (λ c κs. search needs)  -- unpack-u32-requires
     (λ c. search needs)  -- cast-result
-    (λ c. at-least w16 _ _ (c .before .unpack-u32 .ensures .is) (c .if1 .taken))  -- returns
+    (λ c. at-least w16 _ _ (c .before .unpack-u32 .ensures .is) (omega (arith, c .if1 .taken)))  -- returns
     (λ c. omega (arith, c .before .unpack-u32 .ensures .within))  -- sub-result
     (λ c. record { sfits = omega (arith, c .before .unpack-u32 .ensures .within) })  -- cast-result-2
     (λ c. let e = c .before .unpack-u32 .ensures in fits w16 _ _ (e .is) _ refl (omega (arith, e .within)))  -- sub-result-2

@@ -13,7 +13,7 @@ read-i64-spec =
     (tie.spec
     (λ c κs. search needs)  -- unpack-u64-requires
     (λ c. search needs)  -- cast-result
-    (λ c. at-least w64 _ _ (c .before .unpack-u64 .ensures) (c .if1 .taken))  -- returns
+    (λ c. at-least w64 _ _ (c .before .unpack-u64 .ensures) (omega (arith, c .if1 .taken)))  -- returns
     (λ c. omega arith)  -- sub-result
     (λ c. record { sfits = omega arith })  -- cast-result-2
     (λ c. fits w64 _ _ (c .before .unpack-u64 .ensures) _ refl (omega arith))  -- sub-result-2

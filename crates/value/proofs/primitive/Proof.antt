@@ -20,11 +20,11 @@ unfolding payload primitive
 primitive-spec =
     tie.close
     (tie.spec
-    (λ c κs. rw (c .match .keys4) at (c .before .before .pre))  -- read-i8-requires
-    (λ c κs. rw (c .match .keys5) at (c .before .before .pre))  -- read-i16-requires
-    (λ c κs. rw (c .match .keys6) at (c .before .before .pre))  -- read-i32-requires
-    (λ c κs. rw (c .match .keys7) at (c .before .before .pre))  -- read-i64-requires
-    (λ c κs. rw (c .match .keys8) at (c .before .before .pre))  -- unpack-u64-requires
+    (λ c κs. omega (arith, rw (c .match .keys4) at (c .before .before .pre)))  -- read-i8-requires
+    (λ c κs. omega (arith, rw (c .match .keys5) at (c .before .before .pre)))  -- read-i16-requires
+    (λ c κs. omega (arith, rw (c .match .keys6) at (c .before .before .pre)))  -- read-i32-requires
+    (λ c κs. omega (arith, rw (c .match .keys7) at (c .before .before .pre)))  -- read-i64-requires
+    (λ c κs. omega (arith, rw (c .match .keys8) at (c .before .before .pre)))  -- unpack-u64-requires
     (λ c κs. search needs)  -- double-requires
     (λ c κs. (omega arith, omega arith, rw (c .match .keys9) at (c .before .before .pre)))  -- unpack-u32-requires
     (λ c. search needs)  -- cast-single
