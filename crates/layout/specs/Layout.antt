@@ -31,6 +31,10 @@ start w s = offsetsStart w s + w .offset * (count w s + 1)
 unfoldable pub end : Widths → List ℕ → ℕ
 end w s = start w s + offset w s (count w s)
 
+-- Child k starts at its offset in the region
+abbrev pub childStart : Widths → List ℕ → ℕ → ℕ
+childStart w s k = start w s + offset w s k
+
 -- THE CHECKS, IN ORDER, with a number each for a header that is cut, for a sum above the u32 range, and for a region longer than the bytes
 abbrev pub rules : (cut sum longer : ℕ) → Widths → List ℕ → List Rule
 rules cut sum longer w s =

@@ -2,8 +2,8 @@
 ghost use mathlib.Core.Path.{_≡_};
 ghost use Prim.Native.Nat.{_+_, _≤_, _<_};
 ghost use lib.ListN.{length};
-ghost use Rattle.layout.specs.Layout.{start as startOf, end as endOf};
-ghost use Rattle.layout.specs.Steps.{Few, PlacesOf, HeadOf};
+ghost use Rattle.layout.specs.Layout.{count as countOf, offset as offsetOf, start as startOf, end as endOf};
+ghost use Rattle.layout.specs.Steps.{Few, PlacesOf, NumbersOf, HeadOf};
 
 // What the header byte says: how many bytes the count has, an id (0 where there are none), and an offset.
 pub struct Widths {
@@ -89,4 +89,13 @@ pub fn read(s: &[u8], w: Widths) -> Head
         start,
         end,
     })
+}
+
+// Offset k of the n + 1. It tests nothing: the layers above call it for the children of a checked layout.
+pub fn offset_at(s: &[u8], w: Widths, l: Numbers, k: usize) -> usize
+    requires { ⌜ Few w × NumbersOf (now s) w l × (k ≤ countOf w (now s)) ⌝ }
+    ensures { λ r. ⌜ (r ≡ offsetOf w (now (s .entry)) k) × (r < 4294967296) ⌝ }
+{
+    let n = w.offset;
+    width::unpack_u32(s, l.offsets + n * k, n)
 }

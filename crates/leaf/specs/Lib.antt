@@ -1,0 +1,4 @@
+pub mod Leaf
+pub mod Meaning
+pub mod Answers
+pub mod Steps

@@ -1,0 +1,4 @@
+pub mod List
+pub mod Meaning
+pub mod Answers
+pub mod Steps
