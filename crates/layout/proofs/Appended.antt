@@ -25,7 +25,7 @@ module _ (w : Widths) (s u : List ℕ) where
     counted : 1 + w .count ≤ length s
     counted = omega (arith, count-before w s, offsets-before w s)
 
-    offset-same : (k : ℕ) → k ≤ count w s → offset w (s ++ u) k ≡ offset w s k
+    pub offset-same : (k : ℕ) → k ≤ count w s → offset w (s ++ u) k ≡ offset w s k
     unfolding offset
     offset-same k p =
         rw (offsets-same counted, le-append-at (w .offset) (offsetsStart w s + w .offset * k) s u (omega (arith, offset-inside w s k p)))
@@ -44,6 +44,13 @@ module _ (w : Widths) (s u : List ℕ) where
       let a = offsets-same counted in
       let b = start-same counted in
       omega arith & λ f. omega arith & λ g. omega arith & λ placed. let e = end-same placed in omega arith & λ h. omega arith & λ i. tt)
+
+  -- a layout that passes does so again
+  pub passed-again : Passed (rules 0 0 0 w s) → Passed (rules 0 0 0 w (s ++ u))
+  passed-again p =
+      let counted : 1 + w .count ≤ length s = omega arith in
+      let placed : start w s ≤ length s = omega arith in
+      omega (arith, length-append s u, offsets-same counted, start-same counted, end-same placed)
 
   -- a layout that ends within the bytes before passes without those after
   pub rules-shrink : Passed (rules 0 0 0 w (s ++ u)) → end w (s ++ u) ≤ length s → Passed (rules 0 0 0 w s) × (end w (s ++ u) ≡ end w s)

@@ -97,9 +97,9 @@ checksAt depth d v = here (dictionary.checks d) andThen here (first ((limit <? l
 abbrev pub checks : List ℕ → List ℕ → Seen
 checks d v = checksAt 0 d v
 
--- ANSWERS: an accepted tree gives the value's own length; a refusal the start of the value that it is of, and its place
+-- ANSWERS: start and end of an accepted tree, which are 0 and the value's own length; of a refusal the start of the value that it is of
 abbrev pub told : (own : ℕ) → Seen → Answer
-told own fine = accept (own ∷ [])
+told own fine = accept (0 ∷ own ∷ [])
 told own (wrong code place start) = gives code (start ∷ []) place
 
 unfoldable pub verdictAt : (depth : ℕ) → List ℕ → List ℕ → Answer

@@ -55,7 +55,7 @@ neither false b e = (refl, e)
 neither true b e = false-true (cc)
 
 -- the layer's checks after the dictionary's, and after the header's
-abbrev fields : List ℕ → List ℕ → Found
+abbrev pub fields : List ℕ → List ℕ → Found
 fields d o = first (each (nameRules d o) (count o)) orElse first (each (offsetRules o) (count o))
 
 abbrev pub own : List ℕ → List ℕ → Found
@@ -172,7 +172,7 @@ module _ (d t o u : List ℕ) where
           each-alike (nameRules d o) (nameRules (d ++ t) (o ++ u)) (count o) λ k p all.
           stays-same _ _ (kept (λ _. false) _ _ (name-kept k p (λ z. all (k - 1) (omega arith) .0)))
 
-      fields-same : fields (d ++ t) (o ++ u) ≡ fields d o
+      pub fields-same : fields (d ++ t) (o ++ u) ≡ fields d o
       fields-same =
           rw (count-same o u (counted o u placed), ← names-same, each-same (offsetRules (o ++ u)) (offsetRules o) (count o) (offset-rules-same o u placed))
 

@@ -3,6 +3,7 @@ pub mod Accepts
 pub mod Refuses
 pub mod Pinned
 pub mod Appended
+pub mod Local
 pub mod Cut
 pub mod Says
 pub mod Fits

@@ -8,4 +8,4 @@ use Rattle.tree.specs.declared.Verdict.the-variants as verdict
 
 abbrev pub verdictNumbers : Verdict → Answer
 verdictNumbers (verdict.Refused r start) = gives (refusalNumber r) (start ∷ []) (refusalPlace r)
-verdictNumbers (verdict.Accepted end) = accept (end ∷ [])
+verdictNumbers (verdict.Accepted end) = accept (0 ∷ end ∷ [])

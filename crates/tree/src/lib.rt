@@ -1,6 +1,8 @@
 // The full check of a value over a dictionary: all that is below it, too (variant.rs: with_full_validation).
 ghost use mathlib.Core.Path.{_≡_};
-ghost use lib.ListN.{length, replicate};
+ghost use Prim.Native.Nat.{_-_};
+ghost use Rattle.marks.specs.Marks.{cleared};
+ghost use Rattle.nodes.specs.Tree.{levels};
 ghost use Rattle.tree.specs.Promises.{CheckAtPromise, CheckPromise, CheckWithPromise};
 use nodes::Finding;
 use nodes::Refusal;
@@ -47,7 +49,16 @@ fn check_marked(dict: &[u8], value: &[u8], depth: usize, marks: &mut [u8]) -> Ve
                 };
             }
             let none = Span { start: 0, end: 0 };
-            match descent::check_value(dict, h, value, 0, value.len(), levels_from(depth), none, marks) {
+            match descent::check_value(
+                dict,
+                h,
+                value,
+                0,
+                value.len(),
+                levels_from(depth),
+                none,
+                marks,
+            ) {
                 Finding::Bad { refusal, start } => Verdict::Refused { refusal, start },
                 Finding::Good { .. } => Verdict::Accepted {
                     end: encoding::bytes_of(encoding::own_length(value)),
