@@ -66,3 +66,9 @@ pub data Refusal (d v : List ℕ) : (code place start : ℕ) → Type 0 where
   too-long : dictionary-meaning.Dictionary d (dictionary.count d) (dictionary.end d) → limit < length v → Refusal d v 20 0 0
   of-value : {c p a : ℕ} → dictionary-meaning.Dictionary d (dictionary.count d) (dictionary.end d) → length v ≤ limit → Due d 32 v c p a
       → Refusal d v c p a
+
+-- WHAT STANDS IN A VALUE: itself, and each child of an object or a list that does
+pub data Inside (v : List ℕ) : List ℕ → Type 0 where
+  itself : Inside v v
+  in-object : {k : ℕ} {s : List ℕ} {w : Widths} → Inside v s → headOf s ≡ header.Object w → k < count w s → Inside v (childOf w s (fieldEnd w s) k)
+  in-list : {k : ℕ} {s : List ℕ} {w : Widths} → Inside v s → headOf s ≡ header.List w → k < count w s → Inside v (childOf w s (elementEnd w s) k)
