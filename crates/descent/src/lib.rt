@@ -139,7 +139,7 @@ fn check_list(
     }
 }
 
-// The children of a container in order, each with `left` levels.
+// The children of a container in order, each with `left` levels. A small leaf is good as it stands, and is not marked.
 fn check_children(
     dict: &[u8],
     h: dictionary::Header,
@@ -160,17 +160,21 @@ fn check_children(
     let mut k = 0;
     while k < count {
         let child = nodes::child_at(whole, a, e, c, k);
-        match check_value(dict, h, whole, child.start, child.end, left, text, marks) {
-            Finding::Bad { refusal, start } => {
-                return Finding::Bad { refusal, start };
-            }
-            Finding::Good {
-                height: below,
-                known: more,
-            } => {
-                height = nodes::larger(height, below);
-                text = more;
-                k += 1;
+        if leaf::is_small(whole, child.start, child.end) {
+            k += 1;
+        } else {
+            match check_value(dict, h, whole, child.start, child.end, left, text, marks) {
+                Finding::Bad { refusal, start } => {
+                    return Finding::Bad { refusal, start };
+                }
+                Finding::Good {
+                    height: below,
+                    known: more,
+                } => {
+                    height = nodes::larger(height, below);
+                    text = more;
+                    k += 1;
+                }
             }
         }
     }

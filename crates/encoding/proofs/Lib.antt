@@ -3,3 +3,4 @@ pub mod Means
 pub mod Appended
 pub mod Cut
 pub mod Pinned
+pub mod Fixed

@@ -3,7 +3,7 @@
 use mathlib.Core.Bool.{Bool, true, false, cond, _||_}
 use mathlib.Core.List.{List, [], _∷_}
 use Prim.Native.Nat.{ℕ, _+_, _/_, _%_}
-use lib.Dec.{eqb}
+use lib.Dec.{eqb, ltb}
 use lib.ListN.{length, drop, getD}
 use Rattle.width.specs.Width.{le}
 use Rattle.rules.specs.Rules.{Rule, Found, first}
@@ -55,6 +55,10 @@ holdsLength t = eqb t 15 || eqb t 16
 
 unfoldable pub held : ℕ → List ℕ → ℕ
 held t s = cond (holdsLength t) (le 4 (drop 1 s)) 0
+
+-- where the type alone says a primitive's bytes, so many; 0 of an unknown type, and of one that holds its length
+unfoldable pub fixedLength : ℕ → ℕ
+fixedLength t = cond (ltb 20 t || holdsLength t) 0 (1 + payload t)
 
 -- THE OWN LENGTH
 

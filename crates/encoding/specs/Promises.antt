@@ -7,7 +7,7 @@ use Rattle.layout.specs.Steps.{Few}
 use Rattle.encoding.specs.declared.Header.{Header}
 use Rattle.encoding.specs.declared.Header.the-variants as header
 use Rattle.encoding.specs.declared.Length.{Length}
-use Rattle.encoding.specs.Encoding.{headerOf, holdsLength, ownLength, isKnown, bytesOf}
+use Rattle.encoding.specs.Encoding.{headerOf, holdsLength, fixedLength, ownLength, isKnown, bytesOf}
 
 -- what the byte says, and within which bounds a byte can say it
 abbrev pub Bounded : Header → Type 0
@@ -22,6 +22,9 @@ pub record HeaderPromise (b : ℕ) (r : Header) : Type 0 where
 
 abbrev pub HoldsPromise : ℕ → Bool → Type 0
 HoldsPromise t r = r ≡ holdsLength t
+
+abbrev pub FixedPromise : ℕ → ℕ → Type 0
+FixedPromise t r = r ≡ fixedLength t
 
 abbrev pub LengthPromise : List ℕ → Length → Type 0
 LengthPromise s r = r ≡ ownLength s

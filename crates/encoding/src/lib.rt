@@ -5,7 +5,7 @@ ghost use lib.ListN.{length};
 ghost use Rattle.layout.specs.Steps.{Few};
 ghost use Rattle.encoding.specs.Encoding.{objectWidths, listWidths, countWidth, lengthBy};
 ghost use Rattle.encoding.specs.Steps.{sized};
-ghost use Rattle.encoding.specs.Promises.{HeaderPromise, HoldsPromise, LengthPromise, KnownPromise, BytesPromise};
+ghost use Rattle.encoding.specs.Promises.{HeaderPromise, HoldsPromise, FixedPromise, LengthPromise, KnownPromise, BytesPromise};
 
 // What the header byte says: the basic type, and in the upper six bits a primitive's type, a short string's length,
 // or the widths of an object's or a list's numbers.
@@ -115,6 +115,19 @@ pub fn holds_length(t: usize) -> bool
         return true;
     }
     t == 16
+}
+
+// The bytes of a primitive where its type alone says them; 0 of an unknown type, and of one that holds its length.
+pub fn fixed_length(t: usize) -> usize
+    ensures { λ r. ⌜ FixedPromise t r ⌝ }
+{
+    if 20 < t {
+        return 0;
+    }
+    if holds_length(t) {
+        return 0;
+    }
+    1 + width::wide(PAYLOADS[t])
 }
 
 fn primitive_length(s: &[u8], t: usize) -> Length

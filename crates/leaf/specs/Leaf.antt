@@ -16,6 +16,17 @@ use Rattle.encoding.specs.declared.Length.{Length}
 use Rattle.encoding.specs.declared.Length.the-variants.{Known, Cut, Sum, Unknown, Longer}
 use Rattle.encoding.specs.Encoding.{headerOf, ownLength, bytesOf}
 
+-- what a value's first byte says; of no bytes, what 0 does
+abbrev pub headOf : List ℕ → Header
+headOf s = headerOf (getD s 0 0)
+
+-- neither an object nor a list
+abbrev pub IsLeaf : Header → Type 0
+IsLeaf (header.Primitive t) = Unit {0}
+IsLeaf (header.ShortString n) = Unit {0}
+IsLeaf (header.Object w) = ⊥
+IsLeaf (header.List w) = ⊥
+
 -- 51 for an unknown primitive type, 50 for all else that has no own length within its bytes and the u32 range; no bytes are such
 unfoldable pub lengthFound : Length → Found
 lengthFound (Known n) = pass

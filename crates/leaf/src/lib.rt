@@ -1,12 +1,14 @@
 // Leaves, primitives and short strings: their length, and the text of strings (variant.rs: Variant; utils.rs: string_from_slice).
 ghost use mathlib.Core.Path.{_≡_};
-ghost use Prim.Native.Nat.{_≤_};
+ghost use mathlib.Core.Bool.{true};
+ghost use Prim.Native.Nat.{_+_, _≤_, _<_};
 ghost use lib.ListN.{length};
 ghost use Rattle.part.specs.Part.{part};
+ghost use Rattle.chars.specs.Rfc3629.{Text};
 ghost use Rattle.encoding.specs.declared.Length.the-variants.{Known};
 ghost use Rattle.encoding.specs.Encoding.{ownLength};
 ghost use Rattle.texts.specs.Known.{KnownOf};
-ghost use Rattle.leaf.specs.Steps.{TextOf, LeafOf};
+ghost use Rattle.leaf.specs.Steps.{TextOf, LeafOf, SmallOf};
 use encoding::Header;
 use encoding::Length;
 use texts::Judged;
@@ -23,6 +25,45 @@ pub enum Refusal {
 pub enum Leaf {
     Refused(Refusal),
     Good(Span),
+}
+
+// Whether there are bytes, and room for them.
+fn fits(bytes: usize, room: usize) -> bool
+    ensures { λ r. ⌜ (r ≡ true → (0 < bytes) × (bytes ≤ room)) ⌝ }
+{
+    if bytes == 0 {
+        return false;
+    }
+    bytes <= room
+}
+
+// Whether a short string's n bytes of text, after its header byte at a, are there and are UTF-8.
+fn is_short_text(whole: &[u8], a: usize, e: usize, n: usize) -> bool
+    requires { ⌜ (a < e) × (e ≤ length (now whole)) ⌝ }
+    ensures { λ r. ⌜ (r ≡ true → (a + 1 + n ≤ e) × Text (part (now (whole .entry)) (a + 1) (a + 1 + n))) ⌝ }
+{
+    if e - a <= n {
+        return false;
+    }
+    texts::is_text(whole, a + 1, a + 1 + n)
+}
+
+// Whether the value from a to e is a good leaf by a few bytes alone: a primitive of a fixed length, or a short string. What most messages are
+// made of is told so without a mark, and without the range of known text: a string of 63 bytes is soon read again.
+pub fn is_small(whole: &[u8], a: usize, e: usize) -> bool
+    requires { ⌜ (a ≤ e) × (e ≤ length (now whole)) ⌝ }
+    ensures { λ r. ⌜ SmallOf (now (whole .entry)) a e r ⌝ }
+{
+    if e <= a {
+        return false;
+    }
+    let header = encoding::header_of(whole[a]);
+    match header {
+        Header::Primitive(t) => fits(encoding::fixed_length(t), e - a),
+        Header::ShortString(n) => is_short_text(whole, a, e, n),
+        Header::Object(_) => false,
+        Header::List(_) => false,
+    }
 }
 
 // The string whose text is from i to j of the whole.

@@ -44,8 +44,11 @@ module _ (w : List ℕ) (a e : ℕ) where
       → from a (tree d left (part w a e)) ≡ wrong c 0 a
   leaf-bad f d marks left l m = at-start a (tree-leaf d (part w a e) left l ∙ here-stop f)
 
+  pub small-good : (d : List ℕ) → IsLeaf (headOf (part w a e)) × (leaf (part w a e) ≡ pass) → tree d 0 (part w a e) ≡ fine
+  small-good d small = tree-leaf d (part w a e) 0 (small .0) ∙ here-pass (small .1)
+
   pub leaf-good : (t : Span) → leaf (part w a e) ≡ pass → KnownOf w t → LeafOf w a e (finding.Good 0 t)
-  leaf-good t f known d marks left l m = (omega arith, tree-leaf d (part w a e) 0 l ∙ here-pass f, record { marked = m; known = known })
+  leaf-good t f known d marks left l m = (omega arith, small-good d (l, f), record { marked = m; known = known })
 
 -- A CHILD, by its container's numbers
 module _ (w : List ℕ) (a e : ℕ) (c : Container) (o : Stands w a e c) where

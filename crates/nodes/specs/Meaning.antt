@@ -3,31 +3,19 @@
 use mathlib.Core.Path.{_≡_}
 use mathlib.Core.List.{List}
 use Prim.Native.Nat.{ℕ, suc, _+_, _≤_, _<_}
-use lib.ListN.{length, getD}
+use lib.ListN.{length}
 use Rattle.part.specs.Part.{part}
 use Rattle.dictionary.specs.Limits.{limit}
 use Rattle.dictionary.specs.Dictionary as dictionary
 use Rattle.dictionary.specs.Meaning as dictionary-meaning
 use Rattle.layout.specs.declared.Widths.{Widths}
 use Rattle.layout.specs.Layout.{count, childStart, start, end}
-use Rattle.encoding.specs.declared.Header.{Header}
 use Rattle.encoding.specs.declared.Header.the-variants as header
-use Rattle.encoding.specs.Encoding.{headerOf}
 use Rattle.layer.specs.Meaning as object
 use Rattle.list.specs.Meaning as list
 use Rattle.leaf.specs.Meaning as leaf
+pub use Rattle.leaf.specs.Leaf.{headOf, IsLeaf}
 use Rattle.nodes.specs.Tree.{fieldEnd, elementEnd}
-
--- what a value's header byte says; of no bytes, that of a null
-abbrev pub headOf : List ℕ → Header
-headOf s = headerOf (getD s 0 0)
-
--- neither an object nor a list
-abbrev pub IsLeaf : Header → Type 0
-IsLeaf (header.Primitive t) = Unit {0}
-IsLeaf (header.ShortString n) = Unit {0}
-IsLeaf (header.Object w) = ⊥
-IsLeaf (header.List w) = ⊥
 
 abbrev pub childOf : Widths → List ℕ → (high : ℕ → ℕ) → ℕ → List ℕ
 childOf w s high k = part s (childStart w s k) (high k)

@@ -1,5 +1,5 @@
 // Strings inside strings: one range of a whole that is known to be text is kept, so that what lies in it is not read again. A string that
-// overlaps or touches it makes it longer, and its new bytes alone are read.
+// overlaps or touches it makes it longer, and its new bytes alone are read; one that stands apart takes its place.
 ghost use mathlib.Core.Path.{_≡_};
 ghost use mathlib.Core.Bool.{true};
 ghost use Prim.Native.Nat.{_≤_};
@@ -21,7 +21,7 @@ pub enum Judged {
 }
 
 // Whether the bytes from i to j are text.
-fn is_text(whole: &[u8], i: usize, j: usize) -> bool
+pub fn is_text(whole: &[u8], i: usize, j: usize) -> bool
     requires { ⌜ (i ≤ j) × (j ≤ length (now whole)) ⌝ }
     ensures { λ r. ⌜ Tells (part (now (whole .entry)) i j) r ⌝ }
 {
@@ -98,18 +98,15 @@ fn grow_right(whole: &[u8], known: Span, j: usize) -> Span
     known
 }
 
-// Bytes of which the range tells nothing: they are read, and the longer of both is kept.
-fn check_apart(whole: &[u8], i: usize, j: usize, known: Span) -> Judged
-    requires { ⌜ KnownOf (now whole) known × (i ≤ j) × (j ≤ length (now whole)) ⌝ }
+// Bytes of which the range tells nothing: they are read, and are the range from now on.
+fn check_apart(whole: &[u8], i: usize, j: usize) -> Judged
+    requires { ⌜ (i ≤ j) × (j ≤ length (now whole)) ⌝ }
     ensures { λ r. ⌜ JudgedOf (now (whole .entry)) i j r ⌝ }
 {
-    if !is_text(whole, i, j) {
-        return Judged::NotText;
-    }
-    if known.end - known.start < j - i {
+    if is_text(whole, i, j) {
         return Judged::Text(Span { start: i, end: j });
     }
-    Judged::Text(known)
+    Judged::NotText
 }
 
 // Whether the bytes from i to j are text, by the range where it tells.
@@ -118,14 +115,14 @@ pub fn check(whole: &[u8], i: usize, j: usize, known: Span) -> Judged
     ensures { λ r. ⌜ JudgedOf (now (whole .entry)) i j r ⌝ }
 {
     if j < known.start {
-        return check_apart(whole, i, j, known);
+        return check_apart(whole, i, j);
     }
     if known.end < i {
-        return check_apart(whole, i, j, known);
+        return check_apart(whole, i, j);
     }
     let grown = grow_right(whole, grow_left(whole, known, i), j);
     if covers(whole, grown, i, j) {
         return Judged::Text(grown);
     }
-    check_apart(whole, i, j, grown)
+    check_apart(whole, i, j)
 }

@@ -7,7 +7,7 @@ use Rattle.encoding.specs.declared.Header.the-variants as header
 use Rattle.nodes.specs.Steps.{Remembers}
 use Rattle.nodes.proofs.Laws.{object-deep, list-deep}
 use Rattle.nodes.proofs.Marks.{remembers-put}
-use Rattle.nodes.proofs.Steps.{Before, before-more, all-good, first-bad, own-refused, head-is, too-deep}
+use Rattle.nodes.proofs.Steps.{Before, small-good, before-more, all-good, first-bad, own-refused, head-is, too-deep}
 use Prim.Native.Nat.{ℕ, _<_}
 use borrow.Fn.Kinds.{In}
 use borrow.Fn.PlainCycle.{Measures, is, falls, and}
@@ -27,6 +27,7 @@ use Rattle.descent.proofs.check_value.Reads as check-value
 use Rattle.descent.proofs.check_value.Kinds as check-value-kinds
 use Rattle.descent.proofs.+check_children+check_list+check_new+check_object+check_value.Lts-check_value as check-value-lts
 use Rattle.encoding.proofs.header_of.Reads as header-of-reads
+use Rattle.leaf.proofs.is_small.Reads as is-small-reads
 use Rattle.marks.proofs.put.Reads as put-reads
 use Rattle.nodes.proofs.check_leaf.Reads as check-leaf-reads
 use Rattle.nodes.proofs.child_at.Reads as child-at-reads
@@ -95,49 +96,63 @@ pub +check-children+check-list+check-new+check-object+check-value-spec : {M : Ty
 +check-children+check-list+check-new+check-object+check-value-spec =
     close μ-check-children μ-check-list μ-check-new μ-check-object μ-check-value
     (λ t. check-children-lts.spec
-    (child-at-reads.Asked, child-at-reads.Learnt, check-value-below t, check-value.Post, larger-reads.Asked, larger-reads.Learnt)
+    (child-at-reads.Asked, child-at-reads.Learnt, is-small-reads.Asked, is-small-reads.Learnt, check-value-below t, check-value.Post, larger-reads.Asked, larger-reads.Learnt)
     (check-children-at t) check-children.Post
     check-children-Inv-loop
     check-children-μ-loop
     (λ c. (omega arith, omega arith, (λ j q. absurd (omega arith)), c .before .before .before .pre .1 .2, refl))  -- loop-holds
     (λ c κs. let o = c .before .before .before .before .before .pre .1 .3 in (o .stands, omega (arith, o .stands .numbers .count-is)))  -- child-at-requires
-    (λ c κs. let s = c .before .before .before .before .before .before .before in
+    (λ c κs. let child = c .child-at .ensures in (child .rises, omega (arith, child .inside, c .before .before .before .before .before .before .pre .1 .0 .inside)))  -- is-small-requires
+    (λ c. omega (arith, c .before .before .before .loop-test .taken, c .before .before .before .before .before .before .before .before .good)) (λ c. omega (arith, c .before .before .before .loop-test .taken))
+    (λ c. let s = c .before .before .before .before .before .before .before .before in
+    let x = s .args in
+    let l = c .before .before .before .before .loop in
+    let child = c .before .before .child-at in
+    let good = small-good (x .whole .now) (child .result .start) (child .result .end) (x .dict .now) (c .before .is-small .ensures (c .if1 .taken)) in (
+      omega (arith, c .before .before .before .loop-test .taken),
+      l .inv .1,
+      before-more (x .dict .now) (x .whole .now) (x .a) (x .e) (x .c) (s .pre .1 .3) (l .height) 0 (l .height) (l .k) (child .result) (child .ensures)
+          (omega arith) (omega arith) (l .inv .2) good,
+      l .inv .3,
+      l .inv .4,
+    ))  -- loop-again
+    (λ c κs. let s = c .before .before .before .before .before .before .before .before .before in
     let p = s .pre .1 in
-    let child = c .before .child-at .ensures in (
+    let child = c .before .before .before .child-at .ensures in (
       omega (arith, s .pre .0),
       (
         record { over = p .0 .over; limited = p .0 .limited; rises = child .rises; inside = omega (arith, child .inside, p .0 .inside) },
         omega (arith, p .1),
-        c .before .before .before .loop .inv .3,
+        c .before .before .before .before .before .loop .inv .3,
       ),
     ))  -- check-value-requires
     (λ c. search needs) (λ c. search needs)
     (λ c. let call = c .before .before .before .before .before in
-    let l = call .before .before .before .before .loop in
-    let s = call .before .before .before .before .before .before .before .before in
+    let l = call .before .before .before .before .before .before .loop in
+    let s = call .before .before .before .before .before .before .before .before .before .before in
     let x = s .args in
     let o = s .pre .1 .3 in
-    let child = call .before .before .child-at in
+    let child = call .before .before .before .before .child-at in
     first-bad (x .dict .now) (x .whole .now) (x .a) (x .e) (x .c) o (x .left) (l .height) (l .k) (child .result) (child .ensures)
-    (omega (arith, o .stands .numbers .count-is, call .before .before .before .loop-test .taken)) (l .inv .1) (l .inv .2)
+    (omega (arith, o .stands .numbers .count-is, call .before .before .before .before .before .loop-test .taken)) (l .inv .1) (l .inv .2)
     (rw (c .before .refusal .given .1) at (call .check-value .ensures)))  -- returns
     (λ c. search needs) (λ c κs. search needs)
     (λ c. let call = c .before .before .before .before .before .before in
-    omega (arith, call .before .before .before .loop-test .taken, call .before .before .before .before .before .before .before .before .good))  -- add-k
-    (λ c. let call = c .before .before .before .before .before .before in omega (arith, call .before .before .before .loop-test .taken))  -- loop-less
-    (λ c. let s = c .before .before .before .before .before .before .before .before .before .before .before .before .before .before in
+    omega (arith, call .before .before .before .before .before .loop-test .taken, call .before .before .before .before .before .before .before .before .before .before .good))  -- add-k-2
+    (λ c. let call = c .before .before .before .before .before .before in omega (arith, call .before .before .before .before .before .loop-test .taken))  -- loop-less-2
+    (λ c. let s = c .before .before .before .before .before .before .before .before .before .before .before .before .before .before .before .before in
     let x = s .args in
-    let l = c .before .before .before .before .before .before .before .before .before .before .loop in
-    let child = c .before .before .before .before .before .before .before .before .child-at in
+    let l = c .before .before .before .before .before .before .before .before .before .before .before .before .loop in
+    let child = c .before .before .before .before .before .before .before .before .before .before .child-at in
     let good = rw (c .before .before .below .given .1) at (c .before .before .before .before .before .before .check-value .ensures) in
     let most = c .larger .ensures in (
-      omega (arith, c .before .before .before .before .before .before .before .before .before .loop-test .taken),
+      omega (arith, c .before .before .before .before .before .before .before .before .before .before .before .loop-test .taken),
       most .2 (x .left) (l .inv .1) (good .0),
       before-more (x .dict .now) (x .whole .now) (x .a) (x .e) (x .c) (s .pre .1 .3) (l .height) (c .before .before .below .given .0 .0) (c .larger .result) (l .k)
           (child .result) (child .ensures) (most .0) (most .1) (l .inv .2) (good .1),
       good .2,
       search needs,
-    ))  -- loop-again
+    ))  -- loop-again-2
     (λ c. omega (arith, c .before .loop .inv .1, c .before .before .before .before .before .pre .1 .1)) (λ c. search needs)
     (λ c. let s = c .before .before .before .before .before in
     let x = s .args in
