@@ -5,7 +5,8 @@
  * "metadata") and a value. These functions read the dictionary, one layer of an
  * object, and one value: its number, or where its bytes are. They do not look
  * into the object's children, but for how long each is, where the fields are
- * listed; a child that is handed to lichenhusk_value is read as any value.
+ * listed; a child that is handed to lichenhusk_value is read as any value. One
+ * function, lichenhusk_tree, checks a value with all that is below it.
  *
  * Every function takes whatever bytes its buffers hold, keeps nothing,
  * allocates nothing and ends. It reads only the buffers that it is handed, and
@@ -18,8 +19,8 @@
  *   - A buffer is a pointer and a length. The pointer must not be null, not
  *     even for a length of 0: any other pointer will do there, say the address
  *     of some variable.
- *   - A buffer that is written (strip, words, room) shares no memory with
- *     another buffer of the same call.
+ *   - A buffer that is written (strip, words, marks, room) shares no memory
+ *     with another buffer of the same call.
  *   - words and ends are aligned as a uint32_t is.
  *
  * THE STRIP. The answer goes to the first LICHENHUSK_STRIP_BYTES of a buffer of
@@ -35,7 +36,8 @@
  *   bytes 20 to 23   the place of a refusal
  *
  * A word that has no use in an answer is 0; on a refusal, all but the code and
- * the place. Bytes after these stay as they are. The code is also what the
+ * the place, and of lichenhusk_tree the start. Bytes after these stay as they
+ * are. The code is also what the
  * function returns. If the strip is shorter than LICHENHUSK_STRIP_BYTES, the
  * function returns 40 before anything else is looked at, and writes nothing.
  *
@@ -112,7 +114,11 @@ enum {
     /* The words for each of many names: code, field, id, start, end. */
     LICHENHUSK_WORDS_PER_NAME = 5,
     /* The bytes of the empty dictionary. */
-    LICHENHUSK_EMPTY_BYTES = 3
+    LICHENHUSK_EMPTY_BYTES = 3,
+    /* The most objects and lists that may stand in one another in a tree. */
+    LICHENHUSK_LEVELS = 32,
+    /* The longest value of which lichenhusk_tree needs no marks lent to be fast. */
+    LICHENHUSK_OWN_MARKS = 65536
 };
 
 /* Which word of the strip. */
@@ -133,6 +139,8 @@ enum lichenhusk_word_index {
  * it describes, and then entry by entry and field by field: 25 and 26 of each
  * field first, and when all are done, 27 and 28 of each. Of a listing, 43 comes
  * after these, and 41 last. A value alone gets 50 or 51 and no other, but for 40.
+ * Of a tree, an object or a list has its own checks before its children, and its
+ * children come in their order, each with all that is below it.
  */
 enum lichenhusk_code {
     /* Accepted, found, or written. */
@@ -214,7 +222,22 @@ enum lichenhusk_code {
      * bytes or 4,294,967,295. */
     LICHENHUSK_VALUE_SHORT = 50,
     /* The value is of a primitive type that is not known (21 and up). */
-    LICHENHUSK_VALUE_TYPE = 51
+    LICHENHUSK_VALUE_TYPE = 51,
+    /* Of a tree: an object or a list inside LICHENHUSK_LEVELS others. Checked
+     * before anything else of it. */
+    LICHENHUSK_VALUE_TOO_DEEP = 52,
+    /* Of a tree: a string, short or long, that is not UTF-8. */
+    LICHENHUSK_VALUE_NOT_UTF8 = 54,
+
+    /* Of a tree: a list ends before its count, its offsets or its elements do. */
+    LICHENHUSK_LIST_SHORT = 60,
+    /* Of a tree: a list's count or last offset asks for a place above
+     * 4,294,967,295. */
+    LICHENHUSK_LIST_OVERFLOW = 61,
+    /* Of a tree: an element's offset is above the next one, or above the length
+     * of the elements' bytes. The place: the element. Those of all elements are
+     * looked at before the first element is. */
+    LICHENHUSK_LIST_OFFSET = 62
 };
 
 /*
@@ -389,6 +412,69 @@ uint32_t lichenhusk_list(const uint8_t *dict, size_t dict_len,
  */
 uint32_t lichenhusk_value(const uint8_t *value, size_t value_len,
                           uint8_t *strip, size_t strip_len);
+
+/*
+ * Checks the dictionary, and the value that the bytes begin with, with all that
+ * is below it: an object is checked as by lichenhusk_layer and then each of its
+ * children as a value; a list, its offsets and then each of its elements; any
+ * other value for its length, a string for being UTF-8 as well. (A binary, a
+ * decimal, a date is any bytes.) An object's child is handed the bytes from its
+ * start to the object's trimmed end, a list's element those up to the next
+ * offset; what follows a value's own bytes there is ignored.
+ *
+ * 0: end is the value's own length: it is the first so many bytes. All of it can
+ *    be read: lichenhusk_layer and lichenhusk_value refuse no object and no value
+ *    in it.
+ * Otherwise a refusal of the first value, in order, that gets one. start is where
+ * that value starts, counted from the first byte handed over, and the place is
+ * one in its own layer: a nested object's 25 has the start of that object, and
+ * its field. In this order: 10 to 19 of the dictionary, with the start 0; 20 of
+ * the whole value; then
+ *      of no bytes (the outermost value, a list's element): 50
+ *      of an object: 52; 23 to 28
+ *      of a list: 52; 60, 61; 62
+ *      of any other value: 50, 51; 54
+ * or 40, with which nothing is written, to the marks neither.
+ *
+ * MARKS make it fast, and change no answer. They are any number of bytes, 0 too,
+ * which hold anything before; all of them are 0 afterwards, also under a refusal.
+ * A value that was found good is marked at its start, so that it is looked into
+ * once, however many fields and elements share it. (A primitive of a fixed length
+ * and a short string are told by their few bytes, and not marked.) For a value of up to
+ * LICHENHUSK_OWN_MARKS bytes the function has marks of its own, on the stack:
+ * lend none. For a longer value, lend as many as the value has bytes. (More than
+ * LICHENHUSK_OWN_MARKS but fewer than that are marks of the first so many starts;
+ * LICHENHUSK_OWN_MARKS or fewer are cleared and not used.)
+ *
+ * The time grows with the bytes of dictionary and value where there are marks
+ * enough, and children that are shared, or strings that lie in one string, cost
+ * no more. It grows faster, with the square at worst, for what only an adversary
+ * makes: strings that lie in each of two strings far apart, objects whose ids and
+ * offsets overlap, many objects over an unsorted dictionary of long names that
+ * begin alike. These were timed at 64 KiB and at 16 MiB, the latter with marks
+ * for all of it (`rust/run.sh bench adversarial`):
+ *      31 levels whose fields all share their child     0.2 ms     30 ms
+ *      .. child and grandchild in turn                  0.1 ms     30 ms
+ *      strings in a string, in any order                0.1 ms     35 ms
+ *      lists in one another, as many as there is room   0.4 ms    0.1 s
+ *      strings in two strings, in turn                  1.3 ms     70 s
+ *      objects whose ids and offsets overlap            1.6 ms    130 s  *
+ *      objects over two names that begin alike           13 ms    830 s  *
+ * (x86-64, an AMD EPYC; * by the square from 1 MiB, not run.) One range of text
+ * is remembered, so that two that are asked in turn are read again and again;
+ * counts of what is text, four lent bytes for each byte, would cure it. Names are
+ * compared by their bytes where the dictionary is not sorted; where it is, by
+ * their numbers, which is linear: take sorted dictionaries alone from whom you do
+ * not trust. For headers that overlap no cure is known but a smaller limit: all
+ * three are milliseconds at 64 KiB, and up to some seconds at 1 MiB.
+ * Without marks, the time for a value above LICHENHUSK_OWN_MARKS bytes may double
+ * with each level. The stack that is taken is 64 KiB for the marks, and some 30 KiB
+ * for the calls of 32 levels.
+ */
+uint32_t lichenhusk_tree(const uint8_t *dict, size_t dict_len,
+                         const uint8_t *value, size_t value_len,
+                         uint8_t *marks, size_t marks_len,
+                         uint8_t *strip, size_t strip_len);
 
 /*
  * Writes the empty dictionary, the bytes 01 00 00, to the first three bytes of

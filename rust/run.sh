@@ -6,6 +6,7 @@
 #   run.sh original   builds the original, which needs no archive
 #   run.sh short      the comparison's own tests, and a comparison that takes less than a minute
 #   run.sh long       millions of inputs
+#   run.sh trees      the trees of these alone
 #   run.sh replay N   answers of the Rust's, N lines at most, on standard output
 #   run.sh bench      the clock: all tables, or the one of a word
 #
@@ -92,6 +93,11 @@ case $task in
     has_source
     compare long "$@"
     ;;
+  trees)
+    has_cargo
+    has_source
+    compare trees "$@"
+    ;;
   replay)
     has_cargo
     has_source
@@ -104,7 +110,7 @@ case $task in
     target/measured/bench "$@"
     ;;
   *)
-    sed -n '2,13p' run.sh | cut -c3- >&2
+    sed -n '2,14p' run.sh | cut -c3- >&2
     exit 2
     ;;
 esac

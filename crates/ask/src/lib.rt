@@ -6,7 +6,7 @@ ghost use lib.ListN.{length};
 ghost use Rattle.many.specs.Many.{rowsAfter};
 ghost use Rattle.listing.specs.Words.{wordsAfter};
 ghost use Rattle.strip.specs.Shapes.{stripBytes};
-ghost use Rattle.lichenhusk.specs.Strip.{lookupWords, allWords, layerWords, listWords, verdictWords, nameAtWords, valueWords};
+ghost use Rattle.lichenhusk.specs.Strip.{lookupWords, allWords, layerWords, listWords, verdictWords, nameAtWords, valueWords, treeWords};
 ghost use Rattle.host.specs.Host.{wordsIn};
 ghost use Rattle.ask.specs.Numbers.{numbersOf};
 use lichenhusk::STRIP;
@@ -99,6 +99,16 @@ pub fn value(value: &[u8]) -> Answer
 {
     let mut strip = [0u8; STRIP];
     lichenhusk::lichenhusk_value(value, &mut strip);
+    read(&strip)
+}
+
+// A whole tree. It is lent no marks: the check has its own for as many starts as a program has bytes.
+pub fn tree(dict: &[u8], value: &[u8]) -> Answer
+    ensures { λ r. ⌜ numbersOf r ≡ treeWords (now (dict .entry)) (now (value .entry)) ⌝ }
+{
+    let mut none = [0u8; 0];
+    let mut strip = [0u8; STRIP];
+    lichenhusk::lichenhusk_tree(dict, value, &mut none, &mut strip);
     read(&strip)
 }
 

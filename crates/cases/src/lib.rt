@@ -1,6 +1,6 @@
 // A question on a line, and its answer:
 //
-//     dictionary D     name D N     layer D O     lookup D O NAME     list D O ROOM     all D O RUN ROOM END ..     value V
+//     dictionary D     name D N     layer D O     lookup D O NAME     list D O ROOM     all D O RUN ROOM END ..     value V     tree D V
 //
 // D, O, NAME, RUN and V are bytes in hex, `-` for none; N is an entry's number, ROOM how many words the answer may fill. RUN is the names of
 // a lookup of many, one after another, and after ROOM comes where each ends.
@@ -42,7 +42,9 @@ fn reason(n: usize, room: usize) -> bool {
         1 => tell(b"an odd number of hex digits"),
         2 => tell(b"a character that is no hex digit"),
         3 => word_too_long(room),
-        4 => tell(b"the first word is none of dictionary, name, layer, lookup, list, all, value"),
+        4 => tell(
+            b"the first word is none of dictionary, name, layer, lookup, list, all, value, tree",
+        ),
         5 => tell(b"a word is missing"),
         6 => tell(b"a word too many"),
         7 => tell(b"no number below 4294967296"),
@@ -193,7 +195,8 @@ fn both_at(text: &[u8], dict: &mut [u8], object: &mut [u8]) -> Both
     }
 }
 
-fn layer(text: &[u8], dict: &mut [u8], object: &mut [u8]) -> Outcome {
+// A layer, or a whole tree.
+fn layer(text: &[u8], dict: &mut [u8], object: &mut [u8], whole: bool) -> Outcome {
     let b = both_at(text, dict, object);
     let fault = last(text, b.next, b.fault);
     if fault != 0 {
@@ -201,6 +204,9 @@ fn layer(text: &[u8], dict: &mut [u8], object: &mut [u8]) -> Outcome {
     }
     let n = b.dict;
     let m = b.object;
+    if whole {
+        return Outcome::Answered(ask::tree(&dict[0..n], &object[0..m]));
+    }
     Outcome::Answered(ask::layer(&dict[0..n], &object[0..m]))
 }
 
@@ -353,7 +359,7 @@ fn all(
     )
 }
 
-// 1 to 7, or 0 for a word that asks nothing.
+// 1 to 8, or 0 for a word that asks nothing.
 fn kind(verb: &[u8]) -> usize {
     if check::same(verb, b"dictionary") {
         return 1;
@@ -376,6 +382,9 @@ fn kind(verb: &[u8]) -> usize {
     if check::same(verb, b"value") {
         return 7;
     }
+    if check::same(verb, b"tree") {
+        return 8;
+    }
     0
 }
 
@@ -396,11 +405,12 @@ pub fn answer(
     match kind(&line[a..e]) {
         1 => dictionary(rest, dict),
         2 => name(rest, dict),
-        3 => layer(rest, dict, object),
+        3 => layer(rest, dict, object, false),
         4 => lookup(rest, dict, object, query),
         5 => list(rest, dict, object, words),
         6 => all(rest, dict, object, query, ends, words),
         7 => value(rest, object),
+        8 => layer(rest, dict, object, true),
         _ => Outcome::NoCase(UNKNOWN),
     }
 }

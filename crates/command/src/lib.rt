@@ -42,6 +42,9 @@ fn usage() {
     tell(b"       variant name DICT N              the name of entry N\n");
     tell(b"       variant find DICT OBJECT NAME..  the fields of these names\n");
     tell(b"       variant list DICT OBJECT         all fields\n");
+    tell(
+        b"       variant tree DICT VALUE          is a value accepted, with all that is inside it?\n",
+    );
     tell(b"       variant batch                    answers to the lines of standard input\n");
 }
 
@@ -80,6 +83,7 @@ enum Wish {
     Check,
     List,
     Find,
+    Tree,
 }
 
 // One name's answer stands alone; of several, each comes after its name.
@@ -96,6 +100,7 @@ fn answer(wish: Wish, dict: &[u8], object: &[u8], names: &[u8], ends: &[u32]) {
         Wish::Check => sentences::check_object(dict, object),
         Wish::List => sentences::list(dict, object),
         Wish::Find => find_in(dict, object, names, ends),
+        Wish::Tree => sentences::check_tree(dict, object),
     }
 }
 
@@ -136,6 +141,8 @@ pub fn act(count: usize, verb: &[u8], one: &[u8], two: &[u8]) {
         name(one, two);
     } else if count == 4 && check::same(verb, b"list") {
         with_both(Wish::List, one, two, b"", &[0; 0]);
+    } else if count == 4 && check::same(verb, b"tree") {
+        with_both(Wish::Tree, one, two, b"", &[0; 0]);
     } else {
         usage();
     }

@@ -1,6 +1,6 @@
 -- Bytes added to the dictionary, to the object or to both, within the limit: what a call returned and left meets its promise for the more
 -- bytes too, so that it returns and leaves the same (Pinned), unless the code was "empty" or "short". Assumes nothing.
-use Rattle.rules.proofs.Prelude.{_≡_, _∙_, List, _++_, ℕ, _≤_, _<_, decLt, arith, lt-ltb, le-ltb, length, Answer, codeOf}
+use Rattle.rules.proofs.Prelude.{_≡_, refl, sym, ap, _∙_, List, [], _∷_, _++_, ℕ, _≤_, _<_, decLt, arith, lt-ltb, le-ltb, length, getD, Answer, codeOf, gives}
 use Rattle.run.specs.Meaning.{GoodEnds}
 use Rattle.dictionary.specs.Limits.{limit}
 use Rattle.metadata.proofs.Appended.{appended, name-appended}
@@ -10,10 +10,17 @@ use Rattle.many.specs.Many.{lookups}
 use Rattle.many.proofs.Appended.{lookups-appended, rows-appended, run-appended, rows-run-appended}
 use Rattle.listing.specs.Words.{listed}
 use Rattle.listing.proofs.Appended.{listed-appended, words-appended}
-use Rattle.strip.specs.Shapes.{Shape, wordsOf, lookupShape, layerShape, dictionaryShape, nameShape, stripBytes}
+use Rattle.layout.specs.declared.Widths.{Widths}
+use Rattle.encoding.specs.declared.Header.the-variants as header
+use Rattle.nodes.specs.Tree as tree
+use Rattle.nodes.specs.Meaning.{headOf}
+use Rattle.tree.proofs.Appended as tree-appended
+use Rattle.strip.specs.Shapes.{Shape, wordsOf, lookupShape, layerShape, dictionaryShape, nameShape, treeShape, stripBytes}
 use Rattle.lichenhusk.specs.Strip.{returned, stripAfter, filledAfter}
-use Rattle.lichenhusk.specs.Promises.{Left, Filled, DictionaryPromise, NamePromise, LayerPromise, LookupPromise, ListPromise, AllPromise}
-use Rattle.host.proofs.Carries.{first-is}
+use Rattle.lichenhusk.specs.Promises.{Left, Filled, DictionaryPromise, NamePromise, LayerPromise, LookupPromise, ListPromise, AllPromise, TreePromise}
+use Rattle.host.specs.Host.{word}
+use Rattle.host.proofs.Carries.{first-is, carried}
+use Rattle.host.proofs.Trees.{tree-said}
 
 -- an answer that its code keeps is left as it was; with 40 nothing is looked at
 module _ (shape : Shape) (strip : List ℕ) (x y : Answer) {code : ℕ} {after : List ℕ} where
@@ -70,3 +77,20 @@ pub run-kept : (d o names more ends w strip : List ℕ) → GoodEnds names ends 
     → AllPromise d o names ends w strip code after wordsAfter → AllPromise d o (names ++ more) ends w strip code after wordsAfter
 run-kept d o names more ends w strip good code after wordsAfter =
     keeps-filled layerShape strip _ _ (λ c. (run-appended d o names more ends w good, rows-run-appended d o names more ends w good))
+
+-- A TREE whose outermost value is an object: unless the dictionary or that object is refused as empty or short, which have start 0. A refusal of a
+-- value inside it stays, whatever its number
+module _ (d t v u marks strip : List ℕ) {w : Widths} (is : headOf v ≡ header.Object w) (fits : length (d ++ t) ≤ limit) (value-fits : length (v ++ u) ≤ limit) where
+  pub tree-kept : {code : ℕ} {after left : List ℕ} → (word after 3 ≡ 0 → Settled code) → TreePromise d v marks strip code after left
+      → TreePromise (d ++ t) (v ++ u) marks strip code after left
+  unfolding returned
+  tree-kept {code} {after} settled p =
+      keeps-filled treeShape strip _ _ (λ c. (tree-appended.verdict-appended d t v u is fits value-fits (λ n q e. go n q e (c ∙ ap codeOf e) (decLt (length strip) stripBytes)), refl)) p
+    where
+      go : (n q : ℕ) → tree.verdict d v ≡ gives n (0 ∷ []) q → code ≡ n → Dec (length strip < stripBytes) → Settled n
+      go n q e c (yes h) =
+          let forty : code ≡ 40 = p .strip-left .returns ∙ rw (lt-ltb (length strip) stripBytes h) in
+          absurd (tree-said d v .1 (first-is treeShape (tree.verdict d v) ∙ ap codeOf e ∙ sym c ∙ forty))
+      go n q e c (no h) =
+          let words = carried treeShape (tree.verdict d v) (p .strip-left) (omega arith) (tree-said d v .0) in
+          let start : word after 3 ≡ 0 = ap (λ l. getD l 3 0) words ∙ rw e in rw c at (settled start)

@@ -1,6 +1,6 @@
--- None of document 01's six wrong versions meets its promise, nor one for request c), nor one for many names, nor three for values, by the worked cases: a function
--- that meets it and is one of them cannot be. Assumes nothing.
-use Rattle.rules.proofs.Prelude.{_≡_, ap, _∙_, List, [], _∷_, ℕ, arith, getD, replicate, accept}
+-- None of document 01's six wrong versions meets its promise, nor one for request c), nor one for many names, nor three for values, nor three for
+-- trees, by the worked cases: a function that meets it and is one of them cannot be. Assumes nothing.
+use Rattle.rules.proofs.Prelude.{_≡_, ap, _∙_, List, [], _∷_, ℕ, _+_, arith, getD, replicate, accept}
 use denote.Ref.{RefT}
 use lib.IntN.{pos}
 use Rattle.dictionary.specs.declared.Refusal.the-variants.{Short}
@@ -21,7 +21,12 @@ use Rattle.listing.specs.Promises.{ListPromise}
 use Rattle.value.specs.declared.Value.{Value}
 use Rattle.value.specs.declared.Value.the-variants as value
 use Rattle.value.specs.Promises.{ReadPromise}
-use Rattle.host.specs.Worked.{Told, D, P, alone, flow, roll, run}
+use Rattle.layer.specs.Object as object
+use Rattle.tree.specs.declared.Verdict.{Verdict as TreeVerdict}
+use Rattle.tree.specs.declared.Verdict.the-variants as tree
+use Rattle.tree.specs.Promises.{CheckPromise as TreePromise}
+use Rattle.tree.proofs.Pinned.{check-pinned as tree-pinned}
+use Rattle.host.specs.Worked.{Told, D, P, alone, unknown, inside, flow, roll, run}
 use Rattle.host.specs.Worked.Told.{leaves}
 use Rattle.host.proofs.Worked.{worked}
 
@@ -131,3 +136,29 @@ module _ (read : List ℕ → Value) (meets : (s : List ℕ) → ReadPromise s (
       let is = ap (at 31) worked in
       let says = rw (wrong (0x0C ∷ 0xFB ∷ [])) at (meets (0x0C ∷ 0xFB ∷ [])) in
       let z : _≡_ {A = ℕ} 0 1 = cc in omega arith
+
+module _ (check : List ℕ → List ℕ → TreeVerdict) (meets : (d v : List ℕ) → TreePromise d v (check d v)) where
+  -- one that accepts everything
+  pub not-always-accepted : (end : List ℕ → List ℕ → ℕ) → ((d v : List ℕ) → check d v ≡ tree.Accepted (end d v)) → ⊥
+  not-always-accepted end wrong =
+      let is = ap (at 44) worked in
+      let says = rw (wrong D (0x54 ∷ [])) at (meets D (0x54 ∷ [])) in
+      let z : _≡_ {A = ℕ} 0 51 = cc in omega arith
+
+  -- one that never looks below the first layer: what is accepted as a layer is accepted
+  pub not-the-layer : ((d o : List ℕ) (n v e : ℕ) → object.verdict d o ≡ accept (n ∷ v ∷ e ∷ []) → check d o ≡ tree.Accepted e) → ⊥
+  not-the-layer wrong =
+      let layer-is = ap (at 53) worked in
+      let is = ap (at 54) worked in
+      let accepted : object.verdict D unknown ≡ accept (2 ∷ 7 ∷ 10 ∷ []) = cc in
+      let says = rw (wrong D unknown 2 7 10 accepted) at (meets D unknown) in
+      let z : _≡_ {A = ℕ} 0 51 = cc in omega arith
+
+  -- one that takes a level more
+  pub not-33 : ((e : ℕ) → check D (inside 32) ≡ tree.Accepted e → check D (inside 33) ≡ tree.Accepted (e + 4)) → ⊥
+  not-33 wrong =
+      let good = ap (at 55) worked in
+      let is = ap (at 56) worked in
+      let accepted : check D (inside 32) ≡ tree.Accepted 129 = tree-pinned D (inside 32) _ _ (meets D (inside 32)) (cc) in
+      let says = rw (wrong 129 accepted) at (meets D (inside 33)) in
+      let z : _≡_ {A = ℕ} 0 52 = cc in omega arith

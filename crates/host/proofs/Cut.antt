@@ -1,5 +1,6 @@
 -- An accepted dictionary cut anywhere before its trimmed end makes every call that takes it answer 11 or 13 at place 0, with all other words 0;
--- an accepted object cut likewise, 21 or 23; and a listing's words stay as they were lent. Assumes nothing.
+-- an accepted object cut likewise, 21 or 23, and a tree whose outermost value is one, 50 or 23; and a listing's words stay as they were lent.
+-- Assumes nothing.
 use Rattle.rules.proofs.Prelude.{_≡_, refl, _∙_, Bool, true, false, cond, _⊎_, ⊎-elim, inl, inr, List, [], _∷_, ℕ, _<_, ltb, length, take, Answer, accept}
 use Rattle.rules.proofs.Prelude.{refuse, RefusedAs}
 use Rattle.run.specs.Meaning.{GoodEnds}
@@ -10,9 +11,14 @@ use Rattle.object.proofs.Cut as object-cuts
 use Rattle.lookup.proofs.Cut as lookup-cuts
 use Rattle.many.proofs.Cut as many-cuts
 use Rattle.listing.proofs.Cut as listing-cuts
+use Rattle.layout.specs.declared.Widths.{Widths}
+use Rattle.encoding.specs.declared.Header.the-variants as header
+use Rattle.nodes.specs.Tree as tree
+use Rattle.nodes.specs.Meaning.{headOf}
+use Rattle.tree.proofs.Cut as tree-cuts
 use Rattle.strip.specs.Shapes.{Shape, wordsOf, lookupShape, layerShape, dictionaryShape, nameShape, refusalWords, stripBytes}
 use Rattle.lichenhusk.specs.Strip.{filledAfter}
-use Rattle.lichenhusk.specs.Promises.{Left, DictionaryPromise, NamePromise, LayerPromise, LookupPromise, ListPromise, AllPromise}
+use Rattle.lichenhusk.specs.Promises.{Left, DictionaryPromise, NamePromise, LayerPromise, LookupPromise, ListPromise, AllPromise, TreePromise}
 
 -- the words of one of two refusals at place 0
 abbrev pub LeftAs : (empty short : ℕ) → List ℕ → ℕ → List ℕ → Type 0
@@ -56,6 +62,9 @@ module _ (strip : List ℕ) (m : ℕ) {code : ℕ} {after : List ℕ} where
     all-cut o names ends w left good p =
         let c = many-cuts.dictionary-cut names ends w good d o m n e accepted cut in (of-words layerShape strip _ (c .0) (p .strip-left), p .words-left ∙ as-lent w strip (c .1))
 
+    pub tree-cut : (v marks left : List ℕ) → TreePromise (take m d) v marks strip code after left → LeftAs 11 13 strip code after
+    tree-cut v marks left p = ⊎-elim (λ x. inl (rw x at (p .strip-left))) (λ x. inr (rw x at (p .strip-left))) (tree-cuts.dictionary-cut d v n e m accepted cut)
+
   -- THE OBJECT CUT
   module _ (d o : List ℕ) (n v e : ℕ) (accepted : object.verdict d o ≡ accept (n ∷ v ∷ e ∷ [])) (cut : m < e) where
     pub layer-object-cut : LayerPromise d (take m o) strip code after → LeftAs 21 23 strip code after
@@ -72,3 +81,9 @@ module _ (strip : List ℕ) (m : ℕ) {code : ℕ} {after : List ℕ} where
         → LeftAs 21 23 strip code after × (left ≡ w)
     all-object-cut names ends w left good p =
         let c = many-cuts.object-cut names ends w good d o m n v e accepted cut in (of-words layerShape strip _ (c .0) (p .strip-left), p .words-left ∙ as-lent w strip (c .1))
+
+  -- as a tree: of no bytes it is 50
+  pub tree-object-cut : (d v : List ℕ) {w : Widths} → headOf v ≡ header.Object w → (e : ℕ) → tree.verdict d v ≡ accept (0 ∷ e ∷ []) → m < e
+      → (marks left : List ℕ) → TreePromise d (take m v) marks strip code after left → LeftAs 50 23 strip code after
+  tree-object-cut d v is e accepted cut marks left p =
+      ⊎-elim (λ x. inl (rw x at (p .strip-left))) (λ x. inr (rw x at (p .strip-left))) (tree-cuts.value-cut d v is m e accepted cut)

@@ -1,12 +1,14 @@
 -- Document 01's two length cases, at the limit of request d): a dictionary and an object of just that length are read, whatever stands after
--- their ends, and those of one byte more get 10 and 20. No program has room to run these. Assumes nothing.
-use Rattle.rules.proofs.Prelude.{_≡_, ap, _∙_, List, [], _∷_, _++_, ℕ, _+_, arith, length, length-append, accept, refuse, codeOf, let-through}
+-- their ends, and those of one byte more get 10 and 20, the latter as a tree, too. No program has room to run these. Assumes nothing.
+use Rattle.rules.proofs.Prelude.{_≡_, ap, _∙_, List, [], _∷_, _++_, ℕ, _+_, arith, length, lt-ltb, length-append, accept, refuse, gives, codeOf, first, let-through}
 use Rattle.dictionary.specs.Limits.{limit}
 use Rattle.dictionary.specs.Dictionary as dictionary
 use Rattle.metadata.proofs.Appended.{appended}
 use Rattle.metadata.proofs.Raised as dictionary-raised
 use Rattle.layer.specs.Object as object
 use Rattle.object.proofs.Raised as object-raised
+use Rattle.nodes.specs.Tree as tree
+use Rattle.nodes.specs.Tree.{_andThen_}
 use Rattle.lookup.specs.ByName.{lookup}
 use Rattle.lookup.proofs.Appended.{lookup-appended}
 use Rattle.host.specs.Worked.{D, P, flow}
@@ -34,3 +36,7 @@ longest-object u l =
 pub longer-object : (d o : List ℕ) {n e : ℕ} → dictionary.verdict d ≡ accept (n ∷ e ∷ []) → length o ≡ limit + 1 → object.verdict d o ≡ refuse 20 0
 unfolding dictionary.verdictWithin
 longer-object d o v l = object-raised.verdict-past limit d o (let-through (dictionary.checks d) _ v .0) (omega arith)
+
+pub longer-tree : (d v : List ℕ) {n e : ℕ} → dictionary.verdict d ≡ accept (n ∷ e ∷ []) → length v ≡ limit + 1 → tree.verdict d v ≡ gives 20 (0 ∷ []) 0
+unfolding dictionary.verdictWithin tree.verdictAt tree.checksAt tree.here _andThen_ first
+longer-tree d v a l = rw (let-through (dictionary.checks d) _ a .0, lt-ltb limit (length v) (omega arith))

@@ -7,5 +7,6 @@ pub mod All
 pub mod Appended
 pub mod Values
 pub mod Cut
+pub mod Trees
 pub mod Raised
 pub mod Lengths

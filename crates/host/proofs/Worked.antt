@@ -10,6 +10,10 @@ use Rattle.width.specs.Limits.{u32Max}
 use Rattle.dictionary.specs.Limits.{limit}
 use Rattle.dictionary.specs.Dictionary as dictionary
 use Rattle.layer.specs.Object as object
+use Rattle.list.specs.List as list
+use Rattle.leaf.specs.Leaf as leaf
+use Rattle.nodes.specs.Tree as tree
+use Rattle.nodes.specs.Tree.{_andThen_}
 use Rattle.layout.specs.Layout as layout
 use Rattle.encoding.specs.Encoding as encoding
 use lib.Ieee.{ofBits, toBits, nanBits, size}
@@ -34,6 +38,8 @@ unfolding le bytesOf upTo leadOf tailsOf char textUpTo begins isCut compareOf be
     layout.count layout.offsetsStart layout.offset layout.start layout.end encoding.countWidth encoding.objectWidths encoding.listWidths encoding.headerOf
     encoding.payload encoding.holdsLength encoding.held encoding.bytesBy encoding.lengthRules encoding.caseOf encoding.lengthBy encoding.ownLength
     signed extended ofBits toBits nanBits size value.single value.double value.payloadStart value.primitive value.readBy value.measured value.reading
+    list.elementRules list.checks leaf.lengthFound leaf.isString leaf.textStart leaf.text leaf.textRules leaf.leaf _andThen_ tree.here tree.from tree.inOrder
+    tree.child tree.children tree.layered tree.objectBy tree.listBy tree.valueBy tree.tree tree.levels tree.checksAt tree.verdictAt
     listing.child listing.span listing.spanRules listing.row listing.listChecksWithin listing.listedWithin listing.wordsAfterWithin
     bytesOfWords stripAfter
 worked = refl

@@ -22,9 +22,13 @@ use Rattle.listing.specs.Meaning.{Listed, NoLength, NoRoom}
 use Rattle.number.specs.Signed.{signed, extended}
 use Rattle.layout.specs.declared.Widths.{Widths}
 use Rattle.encoding.specs.declared.Header.the-variants as header
+use Rattle.encoding.specs.declared.Length.the-variants.{Known}
+use Rattle.encoding.specs.Encoding.{ownLength}
 use Rattle.value.specs.declared.Value.the-variants.{Short, Unknown}
 use Rattle.value.specs.Reading.{payloadStart}
 use Rattle.value.specs.Meaning.{Begins, OfType, Placed, Reads}
+use Rattle.nodes.specs.Meaning as tree
+use Rattle.marks.specs.Marks.{cleared}
 use Rattle.strip.specs.Shapes.{refusalWords, stripBytes}
 
 -- WHAT CODE, NUMBER, ID, START, END AND PLACE SAY, call by call
@@ -86,6 +90,11 @@ pub data ValueSays (s : List ℕ) : List ℕ → Type 0 where
   short : Reads s Short → ValueSays s (refusalWords 50 0)
   no-such-type : Reads s Unknown → ValueSays s (refusalWords 51 0)
 
+-- of a tree: it is good, with its own length for an end; or its first refusal, with the start of the value that it is of
+pub data TreeSays (d v : List ℕ) : List ℕ → Type 0 where
+  accepted : {e : ℕ} → tree.GoodTree d v → ownLength v ≡ Known e → TreeSays d v (0 ∷ 0 ∷ 0 ∷ 0 ∷ e ∷ 0 ∷ [])
+  refused : {c p a : ℕ} → tree.Refusal d v c p a → TreeSays d v (c ∷ 0 ∷ 0 ∷ a ∷ 0 ∷ p ∷ [])
+
 -- WHAT A CALL TELLS
 
 -- word k of a strip, as the host reads it
@@ -110,6 +119,11 @@ pub record FillsAll (d o names ends words : List ℕ) (code : ℕ) (wordsAfter :
   pub filled : code ≡ 0 → (k : ℕ) → k < length ends → rowAt wordsAfter k ≡ rowOf (lookup d o (name names ends k))
   pub past : code ≡ 0 → drop (5 * length ends) wordsAfter ≡ drop (5 * length ends) words
   pub kept : (code ≡ 0 → ⊥) → wordsAfter ≡ words
+
+-- the marks lent to a tree's check: as they were with 40, and all 0 with any other code
+pub record Clears (marks : List ℕ) (code : ℕ) (marksAfter : List ℕ) : Type 0 where
+  pub kept : code ≡ 40 → marksAfter ≡ marks
+  pub none-left : (code ≡ 40 → ⊥) → marksAfter ≡ cleared marks
 
 -- the empty dictionary's code and room
 pub record EmptyTells (room : List ℕ) (code : ℕ) (after : List ℕ) : Type 0 where

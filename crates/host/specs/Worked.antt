@@ -2,11 +2,12 @@
 -- proofs/Worked.antt proves that the definitions say the same. Assumes nothing.
 use mathlib.Core.Bool.{false}
 use mathlib.Core.List.{List, [], _∷_, _++_}
-use Prim.Native.Nat.{ℕ}
+use Prim.Native.Nat.{ℕ, zero, suc}
 use lib.IntN.{negsuc}
 use lib.Ieee.{fin}
-use lib.ListN.{replicate}
+use lib.ListN.{length, replicate}
 use Rattle.rules.specs.Rules.{Answer, refuse, accept}
+use Rattle.rules.specs.Rules.Answer.{gives}
 use Rattle.dictionary.specs.Dictionary as dictionary
 use Rattle.layer.specs.Object as object
 use Rattle.lookup.specs.ByName as by-name
@@ -16,6 +17,7 @@ use Rattle.value.specs.declared.Value.{Value}
 use Rattle.value.specs.declared.Value.the-variants.{I8, F32, F32Nan, Bytes}
 use Rattle.value.specs.Reading.{reading}
 use Rattle.value.specs.Answers.{valueNumbers}
+use Rattle.nodes.specs.Tree as trees
 use Rattle.lichenhusk.specs.Strip.{lookupWords, stripAfter}
 
 -- what can be asked
@@ -30,6 +32,7 @@ pub data Asked : Type 0 where
   strip : (d o q bytes : List ℕ) → Asked
   value : (s : List ℕ) → Asked
   told : (s : List ℕ) → Asked
+  tree : (d v : List ℕ) → Asked
 
 -- what is told: an answer, what is left in the lent words or bytes, or a value
 pub data Told : Type 0 where
@@ -49,6 +52,7 @@ tell (rows d o names ends words) = leaves (many.rowsAfter d o names ends words)
 tell (strip d o q bytes) = leaves (stripAfter bytes (lookupWords d o q))
 tell (value s) = reads (reading s)
 tell (told s) = answers (valueNumbers (reading s))
+tell (tree d v) = answers (trees.verdict d v)
 
 -- D holds "flow" and "roll"
 abbrev pub D : List ℕ
@@ -73,6 +77,11 @@ unknown = 0x02 ∷ 0x02 ∷ 0x00 ∷ 0x01 ∷ 0x00 ∷ 0x02 ∷ 0x03 ∷ 0x0C �
 abbrev pub half : List ℕ
 half = 0x38 ∷ 0x00 ∷ 0x00 ∷ 0x00 ∷ 0x3F ∷ []
 
+-- a leaf inside so many lists, each of that one element
+abbrev pub inside : ℕ → List ℕ
+inside zero = 0x04 ∷ []
+inside (suc n) = 0x03 ∷ 0x01 ∷ 0x00 ∷ length (inside n) ∷ inside n
+
 abbrev pub flow : List ℕ
 flow = 0x66 ∷ 0x6C ∷ 0x6F ∷ 0x77 ∷ []
 
@@ -90,7 +99,8 @@ run = flow ++ rol ++ roll ++ 0x2E ∷ 0x2E ∷ []
 -- differ, those of many names: their rows, a word that stays, an end that falls, one that passes the run, and a word too few; and those of
 -- request e): its second case, 28 of field 0 before 27 of field 1, and 27 of field 0 before 28 of field 1; and those of request f): a byte
 -- between two children that is in no span, and a child of type 21, said before the room that is short; and those of request g): minus five and
--- its words, a float and its bits, those of two NaNs, two texts, and the refusals
+-- its words, a float and its bits, those of two NaNs, two texts, and the refusals; and those of request h): P, no bytes, and each of its refusals,
+-- outermost and inside, the 25 of an object in an object, a child of type 21 in a layer that is accepted, and 32 lists and 33
 abbrev pub starred : List (Asked × Told)
 starred =
     (verdict (0x01 ∷ 0x00 ∷ 0x00 ∷ []), answers (accept (0 ∷ 3 ∷ [])))
@@ -138,4 +148,19 @@ starred =
     ∷ (told [], answers (refuse 50 0))
     ∷ (told (0x0C ∷ []), answers (refuse 50 0))
     ∷ (told (0x54 ∷ []), answers (refuse 51 0))
+    ∷ (tree D P, answers (accept (0 ∷ 10 ∷ [])))
+    ∷ (tree D [], answers (gives 50 (0 ∷ []) 0))
+    ∷ (tree D (0x54 ∷ []), answers (gives 51 (0 ∷ []) 0))
+    ∷ (tree D (0x05 ∷ 0xFF ∷ []), answers (gives 54 (0 ∷ []) 0))
+    ∷ (tree D (0x03 ∷ []), answers (gives 60 (0 ∷ []) 0))
+    ∷ (tree D (0x13 ∷ 0xFF ∷ 0xFF ∷ 0xFF ∷ 0xFF ∷ []), answers (gives 61 (0 ∷ []) 0))
+    ∷ (tree D (0x03 ∷ 0x02 ∷ 0x00 ∷ 0x02 ∷ 0x01 ∷ 0x00 ∷ 0x00 ∷ []), answers (gives 62 (0 ∷ []) 1))
+    ∷ (tree D (0x03 ∷ 0x01 ∷ 0x00 ∷ 0x00 ∷ []), answers (gives 50 (4 ∷ []) 0))
+    ∷ (tree D (0x03 ∷ 0x01 ∷ 0x00 ∷ 0x02 ∷ 0x05 ∷ 0xFF ∷ []), answers (gives 54 (4 ∷ []) 0))
+    ∷ (tree D (0x02 ∷ 0x01 ∷ 0x00 ∷ 0x00 ∷ 0x05 ∷ 0x03 ∷ 0x01 ∷ 0x00 ∷ 0x01 ∷ 0x54 ∷ []), answers (gives 51 (9 ∷ []) 0))
+    ∷ (tree D (0x02 ∷ 0x01 ∷ 0x01 ∷ 0x00 ∷ 0x06 ∷ 0x02 ∷ 0x01 ∷ 0x02 ∷ 0x00 ∷ 0x01 ∷ 0x04 ∷ []), answers (gives 25 (5 ∷ []) 0))
+    ∷ (layer D unknown, answers (accept (2 ∷ 7 ∷ 10 ∷ [])))
+    ∷ (tree D unknown, answers (gives 51 (9 ∷ []) 0))
+    ∷ (tree D (inside 32), answers (accept (0 ∷ 129 ∷ [])))
+    ∷ (tree D (inside 33), answers (gives 52 (128 ∷ []) 0))
     ∷ []

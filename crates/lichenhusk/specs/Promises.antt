@@ -7,7 +7,9 @@ use Rattle.rules.specs.Rules.{codeOf}
 use Rattle.dictionary.specs.Dictionary.{emptied, roomAfter}
 use Rattle.many.specs.Many.{rowsAfter}
 use Rattle.listing.specs.Words.{wordsAfter}
-use Rattle.lichenhusk.specs.Strip.{lookupWords, allWords, layerWords, listWords, verdictWords, nameAtWords, valueWords, returned, stripAfter, filledAfter}
+use Rattle.marks.specs.Marks.{cleared}
+use Rattle.lichenhusk.specs.Strip.{lookupWords, allWords, layerWords, listWords, verdictWords, nameAtWords, valueWords, treeWords}
+use Rattle.lichenhusk.specs.Strip.{returned, stripAfter, filledAfter}
 
 -- of every call that fills a strip: the words of its answer
 pub record Left (strip words : List ℕ) (code : ℕ) (after : List ℕ) : Type 0 where
@@ -29,7 +31,7 @@ LayerPromise d o strip = Left strip (layerWords d o)
 abbrev pub ValuePromise : List ℕ → List ℕ → ℕ → List ℕ → Type 0
 ValuePromise s strip = Left strip (valueWords s)
 
--- of a call that fills lent words, too: what they are filled with
+-- of a call that fills lent words, or clears lent marks: what stands in them afterwards
 pub record Filled (strip words lent filled : List ℕ) (code : ℕ) (after lentAfter : List ℕ) : Type 0 where
   pub strip-left : Left strip words code after
   pub words-left : lentAfter ≡ filledAfter strip lent filled
@@ -39,6 +41,10 @@ ListPromise d o words strip = Filled strip (listWords d o words) words (wordsAft
 
 abbrev pub AllPromise : (d o names ends words strip : List ℕ) → ℕ → List ℕ → List ℕ → Type 0
 AllPromise d o names ends words strip = Filled strip (allWords d o names ends words) words (rowsAfter d o names ends words)
+
+-- a tree: the marks that were lent are all 0 afterwards, under a refusal too
+abbrev pub TreePromise : (d v marks strip : List ℕ) → ℕ → List ℕ → List ℕ → Type 0
+TreePromise d v marks strip = Filled strip (treeWords d v) marks (cleared marks)
 
 -- the empty dictionary, and its room after it
 pub record EmptyPromise (room : List ℕ) (code : ℕ) (after : List ℕ) : Type 0 where

@@ -12,7 +12,8 @@ use Rattle.many.specs.Many as many
 use Rattle.listing.specs.Words as listing
 use Rattle.value.specs.Reading.{reading}
 use Rattle.value.specs.Answers.{valueNumbers}
-use Rattle.strip.specs.Shapes.{wordsOf, lookupShape, layerShape, dictionaryShape, nameShape, valueShape, bytesOfWords, stripBytes}
+use Rattle.nodes.specs.Tree as tree
+use Rattle.strip.specs.Shapes.{wordsOf, lookupShape, layerShape, dictionaryShape, nameShape, valueShape, treeShape, bytesOfWords, stripBytes}
 
 -- THE WORDS OF EACH CALL
 
@@ -37,6 +38,9 @@ nameAtWords d i = wordsOf nameShape (dictionary.nameAt d i)
 abbrev pub valueWords : List ℕ → List ℕ
 valueWords s = wordsOf valueShape (valueNumbers (reading s))
 
+abbrev pub treeWords : List ℕ → List ℕ → List ℕ
+treeWords d v = wordsOf treeShape (tree.verdict d v)
+
 -- THE STRIP: 40, below 24 bytes, is checked first
 
 unfoldable pub returned : List ℕ → List ℕ → ℕ
@@ -45,6 +49,6 @@ returned strip words = cond (ltb (length strip) stripBytes) 40 (getD words 0 0)
 unfoldable pub stripAfter : List ℕ → List ℕ → List ℕ
 stripAfter strip words = cond (ltb (length strip) stripBytes) strip (bytesOfWords words ++ drop stripBytes strip)
 
--- and lent words that a call fills: as lent with 40
+-- and lent words that a call fills, or marks that it clears: as lent with 40
 unfoldable pub filledAfter : List ℕ → List ℕ → List ℕ → List ℕ
 filledAfter strip lent filled = cond (ltb (length strip) stripBytes) lent filled

@@ -1,5 +1,5 @@
 // What a host calls through C: each answer as a strip of six little-endian u32 (include/lichenhusk.h).
-ghost use Rattle.lichenhusk.specs.Promises.{LookupPromise, AllPromise, DictionaryPromise, NamePromise, LayerPromise, ListPromise, ValuePromise, EmptyPromise};
+ghost use Rattle.lichenhusk.specs.Promises.{LookupPromise, AllPromise, DictionaryPromise, NamePromise, LayerPromise, ListPromise, ValuePromise, TreePromise, EmptyPromise};
 
 // The bytes of a strip, below which the answer is 40.
 pub const STRIP: usize = 24;
@@ -102,6 +102,23 @@ pub extern "C" fn lichenhusk_value(value: &[u8], strip: &mut [u8]) -> u32
         return 40;
     }
     let words = bits::of_value(value::read(value));
+    strip::write(strip, words)
+}
+
+// A whole tree: 0, 0, 0, its own length; or a refusal with the start of the value that it is of. The marks, one a start, are all 0 afterwards.
+#[no_mangle]
+pub extern "C" fn lichenhusk_tree(
+    dict: &[u8],
+    value: &[u8],
+    marks: &mut [u8],
+    strip: &mut [u8],
+) -> u32
+    ensures { λ r. ⌜ TreePromise (now (dict .entry)) (now (value .entry)) (now (marks .entry)) (now (strip .entry)) r (now (strip .exit)) (now (marks .exit)) ⌝ }
+{
+    if strip.len() < STRIP {
+        return 40;
+    }
+    let words = reports::of_tree(tree::check_with(dict, value, marks));
     strip::write(strip, words)
 }
 

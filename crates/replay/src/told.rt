@@ -1,6 +1,6 @@
 // What the Rust says on a line, held against our six numbers, and of many names against our words, too:
 //
-//     accepts COUNT END     child COUNT END     at START END     found FIELD ID START END     absent     refuses NUMBER
+//     accepts COUNT END     child COUNT END     at START END     found FIELD ID START END     absent     refuses NUMBER     refuses NUMBER START
 //     rows COUNT END : CODE FIELD ID START END ..     reads KIND LOW HIGH
 use ask::Answer;
 use cases::expected::ends;
@@ -43,7 +43,7 @@ fn reads(text: &[u8], a: Answer) -> bool {
     two(text, kind.next, a.start, a.end)
 }
 
-// Whether the four words between code and place are 0.
+// Whether the words between code and place are 0, but for the start.
 fn gives_nothing(a: Answer) -> bool {
     if a.number != 0 {
         return false;
@@ -51,18 +51,26 @@ fn gives_nothing(a: Answer) -> bool {
     if a.id != 0 {
         return false;
     }
-    if a.start != 0 {
-        return false;
-    }
     a.end == 0
 }
 
+// The number, and of a tree the start of the value that it is of; where none is told, it is 0.
 fn refused(text: &[u8], a: Answer) -> bool {
     if !gives_nothing(a) {
         return false;
     }
     let code = see(text, 0, a.code);
-    code.same
+    if !code.same {
+        return false;
+    }
+    if ends(text, code.next) {
+        return a.start == 0;
+    }
+    let start = see(text, code.next, a.start);
+    if !start.same {
+        return false;
+    }
+    ends(text, start.next)
 }
 
 fn accepted(verb: &[u8], rest: &[u8], a: Answer) -> bool {
@@ -98,6 +106,9 @@ fn absent(verb: &[u8], a: Answer) -> bool {
         return false;
     }
     if a.place != 0 {
+        return false;
+    }
+    if a.start != 0 {
         return false;
     }
     gives_nothing(a)

@@ -63,26 +63,28 @@ fn place(a: Answer) {
         17 | 18 => say(b" at entry ", a.place),
         25..=28 | 43 => say(b" at field ", a.place),
         45 => say(b" at name ", a.place),
+        62 => say(b" at element ", a.place),
         _ => {}
     }
 }
 
-fn is_object(code: usize) -> bool {
+fn meaning(code: usize) -> bool {
     match code {
-        20..=28 | 41 | 43 | 45 => true,
-        _ => false,
+        20..=28 | 41 | 43 | 45 => meaning_of_object(code),
+        50..=62 => speak::meaning(code),
+        _ => meaning_of_dictionary(code),
     }
 }
 
-fn refused(a: Answer) {
+fn why(a: Answer) {
     say(b"refused ", a.code);
     place(a);
     tell(b": ");
-    if is_object(a.code) {
-        meaning_of_object(a.code);
-    } else {
-        meaning_of_dictionary(a.code);
-    }
+    meaning(a.code);
+}
+
+fn refused(a: Answer) {
+    why(a);
     tell(b"\n");
 }
 
@@ -111,6 +113,22 @@ pub fn check_object(dict: &[u8], object: &[u8]) {
         return;
     }
     accepted(a);
+}
+
+// A refusal is of the whole value, or of one inside it, to which the steps are told.
+pub fn check_tree(dict: &[u8], value: &[u8]) {
+    let a = ask::tree(dict, value);
+    if a.code == 0 {
+        counted(b"accepted: ", a.end, b" byte\n", b" bytes\n");
+        return;
+    }
+    why(a);
+    if 0 < a.start {
+        say(b"; in the value from byte ", a.start);
+        tell(b" on, at ");
+        trail::write(dict, value, a.start);
+    }
+    tell(b"\n");
 }
 
 pub fn name(dict: &[u8], entry: usize) {

@@ -60,10 +60,16 @@ fn read(bytes: &[u8], a: Answer) {
     }
 }
 
-fn meaning(code: usize) -> bool {
+// Why a value is refused, or a tree for the value.
+pub fn meaning(code: usize) -> bool {
     match code {
         50 => tell(b"it is cut short, or longer than the u32 range"),
-        _ => tell(b"its primitive type is unknown"),
+        51 => tell(b"its primitive type is unknown"),
+        52 => tell(b"it is an object or a list inside 32 others"),
+        54 => tell(b"its text is not UTF-8"),
+        60 => tell(b"the list is cut short"),
+        61 => tell(b"a sum in the list is above the u32 range"),
+        _ => tell(b"its offset is above the next one or the value region's length"),
     }
 }
 

@@ -44,6 +44,10 @@ nameShape = record { number = unused; id = unused; start = value 0; end = value 
 abbrev pub valueShape : Shape
 valueShape = layerShape
 
+-- of a tree that is accepted 0 and its own length, of one that is refused the start of the value that it is of
+abbrev pub treeShape : Shape
+treeShape = nameShape
+
 -- A REFUSAL, or absence, has no values: four zeros between code and place, whatever was called
 abbrev pub refusalWords : (code place : ℕ) → List ℕ
 refusalWords code place = code ∷ 0 ∷ 0 ∷ 0 ∷ 0 ∷ place ∷ []

@@ -2,7 +2,7 @@
 ghost use mathlib.Core.Path.{_≡_};
 ghost use mathlib.Core.List.{[], _∷_};
 ghost use Prim.Native.Nat.{_≤_};
-ghost use lib.ListN.{length};
+ghost use lib.ListN.{length, set};
 ghost use Rattle.strip.specs.Shapes.{refusalWords, stripBytes};
 ghost use Rattle.strip.specs.Steps.{listOf, Wrote};
 
@@ -26,6 +26,20 @@ pub fn refusal(code: u32, place: usize) -> Words
         start: 0,
         end: 0,
         place,
+    }
+}
+
+// The same words with a start: where the value stands that a refusal is of.
+pub fn from(start: usize, w: Words) -> Words
+    ensures { λ r. ⌜ listOf r ≡ set (listOf w) 3 start ⌝ }
+{
+    Words {
+        code: w.code,
+        number: w.number,
+        id: w.id,
+        start,
+        end: w.end,
+        place: w.place,
     }
 }
 

@@ -13,7 +13,7 @@ use tally::Tally;
 use text::find;
 
 // As many bytes as a word of the table has, and some.
-const ROOM: usize = 64;
+const ROOM: usize = 160;
 
 fn judge(t: Tally, want: &[u8], outcome: Outcome, words: &[u32]) -> Tally {
     cases::write(outcome, words, ROOM);

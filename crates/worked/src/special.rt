@@ -190,6 +190,43 @@ fn words_of_unmeasured(t: Tally) -> Tally {
     words(t, b"the words, which stay", &listed, b": 9 9 9 9 9 9")
 }
 
+// A value over D as a tree, with three marks of 9: the code, and the marks after it.
+fn marked(
+    t: Tally,
+    case: &[u8],
+    value: &[u8],
+    strip: &mut [u8],
+    code: usize,
+    want: &[u8],
+) -> Tally {
+    let mut marks = [9u8; 3];
+    let d = b"\x11\x02\x00\x04\x08flowroll";
+    let got = lichenhusk::lichenhusk_tree(d, value, &mut marks, strip);
+    let t = number(t, case, got as usize, code);
+    bytes(t, b"the marks, three of 9, after it", &marks, want)
+}
+
+fn marks_after(t: Tally) -> Tally {
+    let p = b"\x02\x02\x00\x01\x01\x00\x03\x04\x0C\xFB";
+    let t = marked(t, b"P as a tree", p, &mut [9; 24], 0, b"\x00\x00\x00");
+    let t = marked(
+        t,
+        b"type 21 as a tree",
+        b"\x54",
+        &mut [9; 24],
+        51,
+        b"\x00\x00\x00",
+    );
+    marked(
+        t,
+        b"P as a tree, a strip of 23",
+        p,
+        &mut [9; 23],
+        40,
+        b"\x09\x09\x09",
+    )
+}
+
 // Document 01's two lengths, 65,536 bytes and one more: both are read. For what 10 and 20 refuse no program has room: the host's Rust tests
 // have those cases.
 fn long_dictionary(t: Tally) -> Tally {
@@ -230,7 +267,7 @@ fn long_object(t: Tally) -> Tally {
 
 pub fn run(t: Tally) -> Tally {
     let t = of_refused(of_a_byte(of_p(rooms(t))));
-    let t = words_of_unmeasured(words_of_refused(words_that_stay(t)));
+    let t = marks_after(words_of_unmeasured(words_of_refused(words_that_stay(t))));
     let t = number(
         t,
         b"P and any byte, \"flow\" found as in P",

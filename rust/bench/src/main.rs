@@ -1,9 +1,11 @@
 //! The clock: check and lookup together, the found field's id, its value, UTF-8 alone, many names of
-//! one message, all of its fields, and larger messages, ours and the Rust's, in one process.
+//! one message, all of its fields, whole trees, and larger messages, ours and the Rust's, in one
+//! process; and, where it is asked for, trees that are made to take long, ours alone.
 //!
 //! `cargo run --profile measured -p bench`; with `-- large`, or another word of `TABLES`, that
 //! table alone
 
+mod adversarial;
 mod clock;
 mod ids;
 mod large;
@@ -12,15 +14,17 @@ mod many;
 mod rows;
 mod sides;
 mod texts;
+mod trees;
 mod values;
 
+use adversarial::Taken;
 use clock::SAMPLES;
 use large::{FEW_SAMPLES, Line, MANY_BYTES, SIZES};
 use std::process::{Command, exit};
 use std::{env, fs};
 
 /// The tables, in their order, and the word for each.
-const TABLES: [(&str, fn()); 8] = [
+const TABLES: [(&str, fn()); 9] = [
     ("lookup", lookups),
     ("ids", ids_too),
     ("values", values_read),
@@ -28,8 +32,12 @@ const TABLES: [(&str, fn()); 8] = [
     ("many", many_names),
     ("listing", || listings(&listing::SMALLER)),
     ("listing-large", || listings(&listing::LARGEST)),
+    ("trees", whole_trees),
     ("large", large_messages),
 ];
+
+/// A table that is printed only where its word is given: it may take minutes.
+const ALONE: (&str, fn()) = ("adversarial", adversarial_trees);
 
 /// What the columns are, to be printed above them.
 const LEGEND: &str = "\
@@ -83,6 +91,21 @@ All fields of one message.
   layer     lichenhusk::layer: what ours checks before it looks into the children
 Names have twelve letters, children two bytes.";
 
+/// The same for the table of trees.
+const TREES_LEGEND: &str = "\
+A value with all that is below it.
+  ours      lichenhusk::check_tree: the dictionary and the whole tree, in one call; of more than 65,536
+            bytes it allocates the marks
+  Rust      Variant::try_new, which validates both in full
+  /value    nanoseconds for each value in the tree";
+
+/// The same for the table of trees that are made to take long.
+const ADVERSARIAL_LEGEND: &str = "\
+Trees that are made to take long, lichenhusk::check_tree alone: milliseconds of a call, the least of
+three, or the one where it takes longer than two seconds; then nanoseconds for a byte of dictionary
+and value together. Where a call is likely to take more than two minutes, it is not made, and the
+time that the square of the size tells is printed in brackets.";
+
 /// The same for the last table.
 const LARGE_LEGEND: &str = "\
 Larger messages: microseconds of a call.
@@ -104,7 +127,8 @@ multiple of that. Where growth is linear it is 1.";
 fn main() {
     let tables = tables(env::args().nth(1).as_deref());
     if tables.is_empty() {
-        eprintln!("the tables are {}", TABLES.map(|(word, _)| word).join(", "));
+        let words = TABLES.map(|(word, _)| word).join(", ");
+        eprintln!("the tables are {words}, and {}", ALONE.0);
         exit(2);
     }
     println!("{}", machine());
@@ -122,11 +146,66 @@ fn main() {
 
 /// The table of a word, or all of them.
 fn tables(asked: Option<&str>) -> Vec<fn()> {
+    let others = asked.map(|_| ALONE);
     TABLES
         .into_iter()
+        .chain(others)
         .filter(|&(word, _)| asked.is_none_or(|asked| asked == word))
         .map(|(_, table)| table)
         .collect()
+}
+
+/// The table of trees.
+fn whole_trees() {
+    println!("{TREES_LEGEND}\n");
+    println!(
+        "{:<46}{:>7}{:>9}{:>9}{:>14}{:>14}{:>7}{:>9}{:>9}",
+        "row", "dict", "bytes", "values", "ours", "Rust", "ratio", "/value", "/value"
+    );
+    for row in trees::rows() {
+        let [ours, theirs] = trees::measured(&row);
+        let a_value = |nanos: f64| nanos / row.values as f64;
+        println!(
+            "{:<46}{:>7}{:>9}{:>9}{ours:>14.1}{theirs:>14.1}{:>7.2}{:>9.2}{:>9.2}",
+            row.label,
+            row.dict.len(),
+            row.value.len(),
+            row.values,
+            ours / theirs,
+            a_value(ours),
+            a_value(theirs),
+        );
+    }
+}
+
+/// The table of trees that are made to take long.
+fn adversarial_trees() {
+    println!("{ADVERSARIAL_LEGEND}\n");
+    println!(
+        "{:<52}{:>12}{:>12}{:>12}{:>10}  verdict",
+        "tree", "dict", "value", "ms", "ns/B"
+    );
+    for (label, make) in adversarial::CASES {
+        adversarial::taken(make, |taken| print_taken(label, taken));
+    }
+}
+
+/// A line of that table.
+fn print_taken(label: &str, taken: &Taken) {
+    match taken {
+        Taken::Time(dict, value, time, is_good) => println!(
+            "{label:<52}{dict:>12}{value:>12}{:>12.2}{:>10.2}  {}",
+            time.as_secs_f64() * 1e3,
+            time.as_secs_f64() * 1e9 / (dict + value) as f64,
+            if *is_good { "good" } else { "refused" },
+        ),
+        Taken::About(time) => {
+            println!(
+                "{label:<52}{:>36}",
+                format!("({:.0} s)", time.as_secs_f64())
+            )
+        }
+    }
 }
 
 /// The table of check and lookup together.

@@ -19,7 +19,8 @@
 //! in its order, with the field's own id. So every field of every object is compared, whatever the
 //! listing says. The listing has the same ids and starts, and each child's own length as the Rust
 //! tells it, or is refused with 43 for a child that the Rust refuses: [`listing`](crate::listing) has
-//! that. Each child is read as a value, and [`values`](crate::values) has what must agree of that.
+//! that. Each child is read as a value, and [`values`](crate::values) has what must agree of that. Of
+//! a value as a whole tree, [`tree`](crate::tree) has it.
 //!
 //! Of our own answers besides: each function gives the same refusal; an accepted layer's numbers
 //! are those of its header; a lookup's id is that of its field; words after a listing, and all words
@@ -38,6 +39,7 @@ use crate::original::{
 use crate::ours::{Reader, absent, accepted, found, refused};
 use crate::reading::{DictionaryParts, ObjectParts};
 use crate::tally::Tally;
+use crate::tree::Whole;
 use crate::values::Readings;
 use crate::{Input, LARGE, shown};
 use lichenhusk::{LIMIT, OK, Strip};
@@ -131,10 +133,24 @@ pub struct Known<'d> {
 /// Compares all that can be asked of an input.
 pub fn input(reader: &impl Reader, input: &Input, tally: &mut Tally) -> Compared {
     let known = dictionary(reader, &input.dict, tally)?;
+    if let Some(value) = &input.tree {
+        tree(reader, &known, value, tally)?;
+    }
     match &input.object {
         Some(bytes) => object(reader, &known, bytes, input.query.as_deref(), tally),
         None => Ok(()),
     }
+}
+
+/// Compares what can be asked of a tree over a dictionary.
+pub fn tree(reader: &impl Reader, known: &Known, value: &[u8], tally: &mut Tally) -> Compared {
+    let whole = Whole {
+        reader,
+        dict: known.dict,
+        ours: known.ours,
+        metadata: known.theirs.as_ref(),
+    };
+    whole.of(value, tally)
 }
 
 /// Compares what can be asked of a dictionary.

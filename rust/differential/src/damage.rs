@@ -24,7 +24,7 @@ pub fn damaged(random: &mut Random, good: &Input) -> Input {
 /// The bit of a dictionary's header that says sorted.
 const SORTED: u8 = 0x10;
 
-fn dictionary_damage(random: &mut Random, dict: &mut Vec<u8>) {
+pub(crate) fn dictionary_damage(random: &mut Random, dict: &mut Vec<u8>) {
     match (random.below(8), DictionaryParts::of(dict)) {
         (0, Some(_)) => dict[0] ^= SORTED,
         (1..=3, Some(parts)) => {
@@ -46,7 +46,7 @@ fn object_damage(random: &mut Random, object: &mut Vec<u8>) {
 }
 
 /// Swaps two numbers of a row, repeats one, or sets one to a limit.
-fn number_damage(random: &mut Random, bytes: &mut [u8], row: Row, count: usize) {
+pub(crate) fn number_damage(random: &mut Random, bytes: &mut [u8], row: Row, count: usize) {
     if row.count == 0 || row.end() > bytes.len() {
         return;
     }
@@ -83,7 +83,7 @@ fn limit(random: &mut Random, bytes: &[u8], row: Row, count: usize, held: usize)
     ])
 }
 
-fn byte_damage(random: &mut Random, bytes: &mut Vec<u8>) {
+pub(crate) fn byte_damage(random: &mut Random, bytes: &mut Vec<u8>) {
     if bytes.is_empty() {
         bytes.push(random.byte());
         return;

@@ -3,9 +3,10 @@
 use crate::LARGE;
 use crate::compare::bad_offsets;
 use crate::many::bad_ends;
-use crate::ours::{Reader, absent, accepted, found, refused};
+use crate::ours::{Reader, absent, accepted, found, refused, refused_at};
 use crate::reading::{BINARY, ObjectParts, PAYLOADS, STRING, own_length};
-use lichenhusk::{ABSENT, OK, Strip, WORDS_PER_FIELD, WORDS_PER_NAME};
+use crate::reference::{Tree, Twist};
+use lichenhusk::{ABSENT, LEVELS, LIMIT, OK, OWN_MARKS, Strip, WORDS_PER_FIELD, WORDS_PER_NAME};
 
 /// What a wrong reader does wrong.
 #[derive(Clone, Copy, Debug, PartialEq, Eq)]
@@ -190,10 +191,70 @@ pub enum Fault {
     UnknownIsNull,
     /// Says 50 of a string that is not UTF-8, whose bytes are all there.
     RefusesTexts,
+    /// Accepts every tree whose value has an own length.
+    AcceptsAnyTree,
+    /// Never looks below the first layer of a tree.
+    FirstLayerOnly,
+    /// Refuses a container inside 31 others.
+    OneLevelLess,
+    /// Accepts a container inside 32 others.
+    OneLevelMore,
+    /// Says 52 after what is refused of the container itself.
+    DepthAfterChecks,
+    /// Does not look at the text of a string.
+    StringsUnread,
+    /// Does not look at the text of a short string.
+    ShortStringsUnread,
+    /// Says 54 of a binary that is not UTF-8.
+    BinariesAsTexts,
+    /// Says 62 of a list whose first offset is not 0, as the Rust refuses it.
+    WantsFirstOffset,
+    /// Takes an element that ends where it starts.
+    TakesEmptyElements,
+    /// Hands an element the bytes up to the end of its list.
+    ElementsToEnd,
+    /// Looks into an element before it looks at the offsets after it.
+    ElementsBeforeOffsets,
+    /// Does not hold an element's offset to the region's length.
+    OffsetsAboveLast,
+    /// Takes children in the order in which they lie.
+    ChildrenAsTheyLie,
+    /// Gives the start of the container that has the value which is refused.
+    StartOfParent,
+    /// Counts the start of that value from its container.
+    StartInParent,
+    /// Takes a start that was found good for good, whatever bytes are at hand.
+    MarksUnmeasured,
+    /// Takes a value that was found good for good, however deep it is met again.
+    MarksWithoutLevels,
+    /// Does not look at the ids of nested objects.
+    NestedIdsUnread,
+    /// Does not look at the order of names in nested objects.
+    NestedOrderUnread,
+    /// Says 50 of an object's child of no bytes, in place of the object's 28.
+    EmptyChildrenAsValues,
+    /// Gives the length of the bytes for that of the value.
+    UntrimmedTrees,
+    /// Reads a tree over the limit.
+    NoTreeLimit,
+    /// Says what is refused of the value before what is of the dictionary.
+    TreeBeforeDictionary,
+    /// Says 50 of a leaf of an unknown type.
+    UnknownLeafIsShort,
+    /// Says 23 and 24 of a list.
+    ListsAsObjects,
+    /// Says 62 without a place.
+    NoElement,
+    /// Leaves the marks as they were lent.
+    KeepsMarks,
+    /// Leaves them so under a refusal.
+    KeepsMarksRefused,
+    /// Takes a value whose start is marked before the check for good.
+    TrustsMarks,
 }
 
 /// Every fault.
-pub const ALL: [Fault; 90] = [
+pub const ALL: [Fault; 120] = [
     Fault::AlwaysShort,
     Fault::AbsentIsFound,
     Fault::AlwaysAbsent,
@@ -284,7 +345,76 @@ pub const ALL: [Fault; 90] = [
     Fault::ShortIsUnknown,
     Fault::UnknownIsNull,
     Fault::RefusesTexts,
+    Fault::AcceptsAnyTree,
+    Fault::FirstLayerOnly,
+    Fault::OneLevelLess,
+    Fault::OneLevelMore,
+    Fault::DepthAfterChecks,
+    Fault::StringsUnread,
+    Fault::ShortStringsUnread,
+    Fault::BinariesAsTexts,
+    Fault::WantsFirstOffset,
+    Fault::TakesEmptyElements,
+    Fault::ElementsToEnd,
+    Fault::ElementsBeforeOffsets,
+    Fault::OffsetsAboveLast,
+    Fault::ChildrenAsTheyLie,
+    Fault::StartOfParent,
+    Fault::StartInParent,
+    Fault::MarksUnmeasured,
+    Fault::MarksWithoutLevels,
+    Fault::NestedIdsUnread,
+    Fault::NestedOrderUnread,
+    Fault::EmptyChildrenAsValues,
+    Fault::UntrimmedTrees,
+    Fault::NoTreeLimit,
+    Fault::TreeBeforeDictionary,
+    Fault::UnknownLeafIsShort,
+    Fault::ListsAsObjects,
+    Fault::NoElement,
+    Fault::KeepsMarks,
+    Fault::KeepsMarksRefused,
+    Fault::TrustsMarks,
 ];
+
+impl Fault {
+    /// What it does otherwise than document 02 says of a tree, where that is one thing.
+    fn twist(self) -> Option<Twist> {
+        Some(match self {
+            Fault::FirstLayerOnly => Twist::FirstLayer,
+            Fault::DepthAfterChecks => Twist::DepthLast,
+            Fault::StringsUnread => Twist::Unread(STRING),
+            Fault::ShortStringsUnread => Twist::UnreadShort,
+            Fault::BinariesAsTexts => Twist::BinaryText,
+            Fault::WantsFirstOffset => Twist::FirstOffset,
+            Fault::TakesEmptyElements => Twist::EmptyElements,
+            Fault::ElementsToEnd => Twist::ElementsToEnd,
+            Fault::ElementsBeforeOffsets => Twist::ElementsFirst,
+            Fault::OffsetsAboveLast => Twist::LastOffset,
+            Fault::ChildrenAsTheyLie => Twist::AsTheyLie,
+            Fault::StartOfParent => Twist::StartOfParent,
+            Fault::StartInParent => Twist::StartInParent,
+            Fault::MarksUnmeasured => Twist::ByStart,
+            Fault::MarksWithoutLevels => Twist::WithoutLevels,
+            Fault::NestedIdsUnread => Twist::NestedIds,
+            Fault::NestedOrderUnread => Twist::NestedOrder,
+            Fault::EmptyChildrenAsValues => Twist::EmptyChildren,
+            _ => return None,
+        })
+    }
+
+    /// How many levels it lets a tree have.
+    fn levels(self) -> usize {
+        match self {
+            Fault::OneLevelLess => LEVELS - 1,
+            Fault::OneLevelMore => LEVELS + 1,
+            _ => LEVELS,
+        }
+    }
+}
+
+/// A dictionary of no names.
+const EMPTY_DICTIONARY: [u8; 3] = [1, 0, 0];
 
 /// The greatest numbers of two and of three bytes.
 const TWO_BYTES: usize = 0xFFFF;
@@ -568,6 +698,28 @@ impl<R: Reader> Faulty<R> {
         }
     }
 
+    /// The answer of a fault to a tree over a good dictionary, by the right one.
+    fn wrong_tree(&self, dict: &[u8], value: &[u8], strip: Strip) -> Strip {
+        let (start, place) = (strip.start as usize, strip.place as usize);
+        let twist = self.fault.twist();
+        if twist.is_some() || self.fault.levels() != LEVELS {
+            let tree = Tree::new(dict, value).remembering().twisted(twist);
+            return tree.verdict_within(self.fault.levels());
+        }
+        match (self.fault, strip.code) {
+            (Fault::AcceptsAnyTree, _) => {
+                own_length(value).map_or(strip, |length| accepted(0, 0, length))
+            }
+            (Fault::UntrimmedTrees, OK) => accepted(0, 0, value.len()),
+            (Fault::NoTreeLimit, 20) => self.reader.tree(dict, &value[..LIMIT], &mut []),
+            (Fault::UnknownLeafIsShort, 51) => refused_at(50, start, place),
+            (Fault::ListsAsObjects, 60) => refused_at(23, start, place),
+            (Fault::ListsAsObjects, 61) => refused_at(24, start, place),
+            (Fault::NoElement, 62) => refused_at(62, start, 0),
+            _ => strip,
+        }
+    }
+
     /// A refusal of names that a fault gives where the right one is another, or none.
     fn wrong_refusal(&self, dict: &[u8], run: &[u8], ends: &[u32], room: usize) -> Option<Strip> {
         let bad = bad_ends(run, ends).last();
@@ -759,6 +911,30 @@ impl<R: Reader> Reader for Faulty<R> {
             }
             (_, OK, 8..) => self.wrong_place(value, strip),
             _ => strip,
+        }
+    }
+
+    fn tree(&self, dict: &[u8], value: &[u8], marks: &mut [u8]) -> Strip {
+        let lent = marks.to_vec();
+        let strip = self.reader.tree(dict, value, marks);
+        match self.fault {
+            Fault::KeepsMarks => marks.copy_from_slice(&lent),
+            Fault::KeepsMarksRefused if strip.code != OK => marks.copy_from_slice(&lent),
+            _ => {}
+        }
+        match (strip.code, self.fault) {
+            (10..=19, Fault::TreeBeforeDictionary) => {
+                let alone = self.reader.tree(&EMPTY_DICTIONARY, value, &mut []);
+                if alone.code == OK { strip } else { alone }
+            }
+            (10..=19, _) => strip,
+            _ if lent.len() > OWN_MARKS && self.fault == Fault::TrustsMarks => {
+                match lent.first().is_some_and(|&mark| mark != 0) {
+                    true => accepted(0, 0, own_length(value).unwrap_or(0)),
+                    false => strip,
+                }
+            }
+            _ => self.wrong_tree(dict, value, strip),
         }
     }
 }

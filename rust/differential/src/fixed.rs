@@ -92,6 +92,7 @@ fn worked() -> Vec<Input> {
             dict: dict.to_vec(),
             object: Some(object.to_vec()),
             query: Some(b"rol".to_vec()),
+            ..Input::default()
         }));
     }
     all
@@ -118,6 +119,7 @@ pub fn all_fields(names: &[Vec<u8>], dict: DictionaryShape, object: ObjectShape)
         dict: encode::dictionary(names, dict),
         object: Some(encode::object(&ids, &offsets, &region, object)),
         query: names.last().cloned(),
+        ..Input::default()
     }
 }
 

@@ -35,6 +35,7 @@ pub fn good(random: &mut Random) -> Input {
         dict,
         object: Some(object),
         query: Some(name(random)),
+        ..Input::default()
     }
 }
 
@@ -52,7 +53,7 @@ pub(crate) fn dictionary_width(random: &mut Random, names: &[Vec<u8>]) -> usize 
 }
 
 /// Names, and whether they increase.
-fn names(random: &mut Random) -> (Vec<Vec<u8>>, bool) {
+pub(crate) fn names(random: &mut Random) -> (Vec<Vec<u8>>, bool) {
     let count = entry_count(random);
     let prefix = if random.one_in(6) {
         name(random)
@@ -103,7 +104,7 @@ pub(crate) fn name(random: &mut Random) -> Vec<u8> {
 }
 
 /// Entries of different names, in the order of their names.
-fn field_ids(random: &mut Random, names: &[Vec<u8>], most: usize) -> Vec<usize> {
+pub(crate) fn field_ids(random: &mut Random, names: &[Vec<u8>], most: usize) -> Vec<usize> {
     let one_in = random.between(1, 3);
     let mut ids: Vec<usize> = (0..names.len()).filter(|_| random.one_in(one_in)).collect();
     random.shuffle(&mut ids);
@@ -147,7 +148,7 @@ pub(crate) fn outer_object(
     encode::object(&ids, &offsets, &region, shape)
 }
 
-fn object_shape(random: &mut Random, ids: &[usize], region: usize) -> ObjectShape {
+pub(crate) fn object_shape(random: &mut Random, ids: &[usize], region: usize) -> ObjectShape {
     let greatest = ids.iter().copied().max().unwrap_or(0);
     ObjectShape {
         id_width: random.between(least_width(greatest), 4),
@@ -187,7 +188,7 @@ pub(crate) fn value(random: &mut Random, names: &[Vec<u8>], levels: usize) -> Ve
     primitive(random)
 }
 
-fn short_string(random: &mut Random) -> Vec<u8> {
+pub(crate) fn short_string(random: &mut Random) -> Vec<u8> {
     let mut text = name(random);
     if text.len() > 63 {
         text.clear();
@@ -197,7 +198,7 @@ fn short_string(random: &mut Random) -> Vec<u8> {
     bytes
 }
 
-fn primitive(random: &mut Random) -> Vec<u8> {
+pub(crate) fn primitive(random: &mut Random) -> Vec<u8> {
     let kind = random.below(PAYLOADS.len());
     let mut bytes = vec![(kind as u8) << 2];
     if kind == BINARY || kind == STRING {

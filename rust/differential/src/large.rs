@@ -175,6 +175,7 @@ pub fn good(random: &mut Random) -> Input {
         dict,
         object: Some(object),
         query: Some(generate::name(random)),
+        ..Input::default()
     }
 }
 

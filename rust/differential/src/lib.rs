@@ -1,11 +1,12 @@
 //! Lichenhusk and the Rust crate that it was ported from, given the same bytes.
 //!
 //! [`compare`] says what must agree, [`listing`] of a listing, [`many`] of many names at once and
-//! [`values`] of a value that is read; [`ours`] and [`original`] are the two sides, and [`lengths`]
-//! has what the Rust tells of children's lengths; [`fixed`], [`exhaustive`], [`children`],
-//! [`extremes`], [`long_names`], [`generate`], [`large`] and [`damage`] make the inputs; [`run`] goes
-//! through them, counting in a [`tally`], and has [`shrink`] make an input that disagrees as small as
-//! it can.
+//! [`values`] of a value that is read; [`tree`] has what must agree of a whole tree, by a [`reference`]
+//! and by the Rust but for what is [`otherwise`] there. [`ours`] and [`original`] are the two sides,
+//! and [`lengths`] has what the Rust tells of children's lengths; [`fixed`], [`exhaustive`],
+//! [`children`], [`extremes`], [`long_names`], [`generate`], [`large`], [`trees`] and [`damage`] make
+//! the inputs; [`run`] goes through them, counting in a [`tally`], and has [`shrink`] make an input
+//! that disagrees as small as it can.
 //! [`replay`] writes answers of the Rust's down, to be asked again where it is not at hand.
 
 pub mod children;
@@ -23,13 +24,17 @@ pub mod listing;
 pub mod long_names;
 pub mod many;
 pub mod original;
+pub mod otherwise;
 pub mod ours;
 pub mod random;
 pub mod reading;
+pub mod reference;
 pub mod replay;
 pub mod run;
 pub mod shrink;
 pub mod tally;
+pub mod tree;
+pub mod trees;
 pub mod values;
 
 /// A dictionary or an object of more bytes is a large one: its places take more than two bytes.
@@ -42,6 +47,8 @@ pub struct Input {
     pub dict: Vec<u8>,
     /// The object's bytes.
     pub object: Option<Vec<u8>>,
+    /// A value of which the whole tree is checked.
+    pub tree: Option<Vec<u8>>,
     /// A name to look for beside those that the two suggest.
     pub query: Option<Vec<u8>>,
 }
@@ -60,14 +67,24 @@ impl Input {
         Input {
             dict,
             object: Some(object),
-            query: None,
+            ..Input::default()
+        }
+    }
+
+    /// A dictionary and a value over it, of which the whole tree is checked.
+    pub fn tree(dict: Vec<u8>, value: Vec<u8>) -> Input {
+        Input {
+            dict,
+            tree: Some(value),
+            ..Input::default()
         }
     }
 
     /// How many bytes there are in all.
     pub fn size(&self) -> usize {
         let length = |bytes: &Option<Vec<u8>>| bytes.as_ref().map_or(0, Vec::len);
-        self.dict.len() + length(&self.object) + length(&self.query)
+        let parts = [&self.object, &self.tree, &self.query].map(length);
+        self.dict.len() + parts.iter().sum::<usize>()
     }
 }
 

@@ -1,4 +1,5 @@
-//! The command: `differential short`, `differential long` or `differential replay LINES`.
+//! The command: `differential short`, `differential long`, `differential trees` or `differential replay
+//! LINES`.
 
 use differential::faults::{ALL, Fault, Faulty};
 use differential::ours::Archive;
@@ -11,6 +12,7 @@ use std::time::Duration;
 const USAGE: &str = "\
 usage: differential short [--seed N]
        differential long [--seed N] [--inputs N] [--minutes N]
+       differential trees [--seed N] [--inputs N] [--minutes N]
        differential replay LINES [--seed N]";
 
 /// How long an input that disagrees is made smaller.
@@ -25,7 +27,12 @@ fn main() -> ExitCode {
         ["short", ref options @ ..] => {
             read(options).map(|options| compare(short(&options), &options))
         }
-        ["long", ref options @ ..] => read(options).map(|options| long_run(&options)),
+        ["long", ref options @ ..] => {
+            read(options).map(|options| long_run(long(&options), &options))
+        }
+        ["trees", ref options @ ..] => {
+            read(options).map(|options| long_run(trees(&options), &options))
+        }
         ["replay", lines, ref options @ ..] => emit(lines, options),
         _ => None,
     };
@@ -74,6 +81,8 @@ fn short(options: &Options) -> Settings {
         seed: options.seed,
         generated: 300_000,
         large: 60,
+        trees: 20_000,
+        trees_alone: false,
         every: 3,
         telling: 7,
         limit: Duration::from_secs(50),
@@ -86,10 +95,21 @@ fn long(options: &Options) -> Settings {
         seed: options.seed,
         generated: options.inputs,
         large: 6_000,
+        trees: 1_000_000,
+        trees_alone: false,
         every: 3,
         telling: 8,
         limit: Duration::from_secs(60 * options.minutes),
         patience: PATIENCE,
+    }
+}
+
+/// Trees alone, as many as there would be inputs.
+fn trees(options: &Options) -> Settings {
+    Settings {
+        trees: options.inputs,
+        trees_alone: true,
+        ..long(options)
     }
 }
 
@@ -118,8 +138,8 @@ fn compare(settings: Settings, options: &Options) -> ExitCode {
 }
 
 /// Fails on a disagreement, and where the time did not do for all inputs.
-fn long_run(options: &Options) -> ExitCode {
-    let outcome = compared(long(options), options);
+fn long_run(settings: Settings, options: &Options) -> ExitCode {
+    let outcome = compared(settings, options);
     match outcome.disagreement.is_none() && !outcome.cut {
         true => ExitCode::SUCCESS,
         false => ExitCode::FAILURE,

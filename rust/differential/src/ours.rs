@@ -26,6 +26,8 @@ pub trait Reader {
     ) -> Strip;
     /// Kind, and bits or start and end.
     fn value(&self, value: &[u8]) -> Strip;
+    /// The own length as end; refused, the start of the value that is. The marks are lent.
+    fn tree(&self, dict: &[u8], value: &[u8], marks: &mut [u8]) -> Strip;
 }
 
 /// The archive itself.
@@ -67,6 +69,10 @@ impl Reader for Archive {
     fn value(&self, value: &[u8]) -> Strip {
         filled(|strip| raw::value(value, strip))
     }
+
+    fn tree(&self, dict: &[u8], value: &[u8], marks: &mut [u8]) -> Strip {
+        filled(|strip| raw::tree(dict, value, marks, strip))
+    }
 }
 
 /// The strip of a call. It holds other bytes before, so that each of them must be written.
@@ -87,6 +93,14 @@ pub fn refused(code: u32, place: u32) -> Strip {
         start: 0,
         end: 0,
         place,
+    }
+}
+
+/// The strip of a refusal in a tree.
+pub fn refused_at(code: u32, start: usize, place: usize) -> Strip {
+    Strip {
+        start: start as u32,
+        ..refused(code, place as u32)
     }
 }
 

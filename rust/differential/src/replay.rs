@@ -2,6 +2,9 @@
 //!
 //! A line is a case as `variant batch` reads it, then ` => ` and what the Rust says; the format is
 //! in rust/README.md. Nothing of our side goes into a line.
+//!
+//! Of a whole tree the Rust says that it is accepted, and how long it is, or that it is refused; for
+//! what, and of the value at which start, the [`reference`](crate::reference) says.
 
 use crate::damage::damaged;
 use crate::extremes;
@@ -11,12 +14,15 @@ use crate::lengths::{FEW, Values};
 use crate::original::{
     Reasons, dictionary_number, layer_number, place_in, told, traced, traced_start,
 };
+use crate::ours::{accepted, refused_at};
 use crate::random::Random;
 use crate::reading::ObjectParts;
+use crate::reference::Tree;
+use crate::tree::visits;
 use crate::values::said_by;
-use crate::{Input, hex};
+use crate::{Input, hex, trees};
 use lichenhusk::{LIMIT, OK, Strip, WORDS_PER_NAME, run_of};
-use parquet_variant::{VariantMetadata, VariantObject};
+use parquet_variant::{Variant, VariantMetadata, VariantObject};
 use std::collections::{BTreeMap, BTreeSet};
 use std::fmt;
 
@@ -24,7 +30,10 @@ use std::fmt;
 pub const SEED: u64 = 60;
 
 /// How many lines the repository keeps.
-pub const KEPT: usize = 3_000;
+pub const KEPT: usize = 3_300;
+
+/// One line in so many is a tree's.
+const TREES: usize = 11;
 
 /// The longest line that is taken.
 const LONGEST: usize = 130;
@@ -46,7 +55,7 @@ const ROUNDS: usize = 200;
 
 /// So many lines at most, chosen over all answers and shapes, in order.
 pub fn lines(seed: u64, most: usize) -> Vec<String> {
-    let mut chosen = Chosen::new(most);
+    let mut chosen = Chosen::new(most - most / TREES);
     for input in fixed::inputs() {
         chosen.take(&input, usize::MAX);
     }
@@ -63,6 +72,8 @@ pub fn lines(seed: u64, most: usize) -> Vec<String> {
         chosen.take(&damaged(&mut random, &whole), each);
         chosen.take(&whole, each);
     }
+    chosen.most = most;
+    chosen.take_trees(&mut random);
     chosen.lines.into_iter().collect()
 }
 
@@ -86,6 +97,22 @@ impl Chosen {
 
     fn has_room(&self) -> bool {
         self.lines.len() < self.most && self.bytes + LONGEST < MOST_BYTES
+    }
+
+    /// Takes trees, in rounds as the others.
+    fn take_trees(&mut self, random: &mut Random) {
+        for input in trees::fixed() {
+            self.take(&input, AT_FIRST);
+        }
+        for draw in 0..ROUNDS * ROUND {
+            if !self.has_room() {
+                break;
+            }
+            let whole = trees::good(random);
+            let each = AT_FIRST + 1 + draw / ROUND;
+            self.take(&trees::damaged(random, &whole), each);
+            self.take(&whole, each);
+        }
     }
 
     /// Takes an input's lines that are not too long, and whose class has fewer than so many.
@@ -131,6 +158,8 @@ enum Says {
     Rows(usize, usize, Vec<Says>),
     /// A value: its kind, and its bits' two words or the start and end of its bytes.
     Value(u32, u32, u32),
+    /// A tree: the strip that is due, of which the line has the end, or the number and the start.
+    Tree(Strip),
     /// Refused, by our number.
     Refused(u32),
 }
@@ -150,6 +179,8 @@ impl fmt::Display for Says {
                 rows.iter().try_for_each(|row| row.write_row(to))
             }
             Says::Value(kind, low, high) => write!(to, "reads {kind} {low} {high}"),
+            Says::Tree(strip) if strip.code == OK => write!(to, "accepts 0 {}", strip.end),
+            Says::Tree(strip) => write!(to, "refuses {} {}", strip.code, strip.start),
             Says::Refused(number) => write!(to, "refuses {number}"),
         }
     }
@@ -189,6 +220,7 @@ impl Answer {
         let (dict_bits, object_bits) = match (self.kind(), &self.says) {
             ("dictionary", _) => (WIDTH | SORTED, 0),
             ("value", _) => (0, 0),
+            ("tree", _) => (SORTED, TREE_SHAPE),
             (_, Says::Refused(10..=19)) => (0, 0),
             ("all", says) if says.found() == 0 => (0, 0),
             ("name", _) => (WIDTH | SORTED, 0),
@@ -196,7 +228,8 @@ impl Answer {
         };
         let header = |bytes: &[u8], kept: u8| bytes.first().map(|byte| byte & kept);
         let dict = header(&input.dict, dict_bits);
-        let object = header(input.object.as_deref().unwrap_or_default(), object_bits);
+        let value = input.tree.as_deref().or(input.object.as_deref());
+        let object = header(value.unwrap_or_default(), object_bits);
         format!("{} {} {dict:?} {object:?}", self.kind(), self.answered())
     }
 
@@ -218,6 +251,7 @@ impl Answer {
             Says::Refused(_) => whole,
             Says::Rows(_, _, rows) => format!("{} of {}", self.says.found(), rows.len()),
             Says::Value(kind, _, _) => format!("{kind} {:?}", self.highest_byte()),
+            Says::Tree(strip) => format!("{} {}", strip.code, strip.start > 0),
             _ => whole.split('(').next().unwrap_or_default().to_string(),
         }
     }
@@ -227,11 +261,48 @@ impl Answer {
 const WIDTH: u8 = 0xC0;
 /// The bit of a dictionary's header that says sorted.
 const SORTED: u8 = 0x10;
+/// The bits of a value's header for its basic type, and of an object or a list the offsets' width.
+const TREE_SHAPE: u8 = 0x0F;
 /// The bits of an object's header for both widths and the long count.
 const OBJECT_SHAPE: u8 = 0x7C;
 
+/// What the Rust and the reference say to a tree; nothing where one of them accepts it and the other
+/// does not, or where the Rust cannot be asked.
+fn of_tree(dict: &[u8], value: &[u8]) -> Option<Answer> {
+    let says = match VariantMetadata::try_new(dict) {
+        Err(error) => {
+            let code = dictionary_number(dict, &error)?;
+            // Where the place is one in the dictionary, the Rust does not tell it.
+            (code < 16).then(|| refused_at(code, 0, 0))?
+        }
+        Ok(metadata) => {
+            if visits(value, MOST_VISITS) == MOST_VISITS {
+                return None;
+            }
+            let due = Tree::new(dict, value).verdict();
+            let theirs = Variant::try_new_with_metadata(metadata, value);
+            let is_same = match theirs {
+                Ok(Variant::Object(theirs)) => due == accepted(0, 0, theirs.value.len()),
+                Ok(Variant::List(theirs)) => due == accepted(0, 0, theirs.value.len()),
+                theirs => (due.code == OK) == theirs.is_ok(),
+            };
+            is_same.then_some(due)?
+        }
+    };
+    Some(Answer {
+        case: format!("tree {} {}", hex(dict), hex(value)),
+        says: Says::Tree(says),
+    })
+}
+
+/// The Rust is asked about trees in which fewer values are met.
+const MOST_VISITS: usize = 10_000;
+
 /// All that is asked of an input, as far as it is in the domain.
 fn answers(input: &Input) -> Vec<Answer> {
+    if let Some(value) = &input.tree {
+        return of_tree(&input.dict, value).into_iter().collect();
+    }
     let dict = &input.dict;
     let mut all = Vec::new();
     if dict.len() > LIMIT {

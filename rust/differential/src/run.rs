@@ -12,7 +12,7 @@ use crate::ours::Reader;
 use crate::random::Random;
 use crate::shrink::smallest;
 use crate::tally::{Tally, grouped};
-use crate::{Input, children, extremes, large, shown};
+use crate::{Input, children, extremes, large, shown, trees};
 use std::fmt;
 use std::panic::{AssertUnwindSafe, catch_unwind};
 use std::time::{Duration, Instant};
@@ -26,6 +26,10 @@ pub struct Settings {
     pub generated: u64,
     /// How many larger messages are generated, good ones and damaged ones together.
     pub large: u64,
+    /// How many trees are generated, good ones and damaged ones together.
+    pub trees: u64,
+    /// Whether trees are all that is gone through.
+    pub trees_alone: bool,
     /// The length up to which every string of bytes is tried.
     pub every: usize,
     /// The length up to which every string of telling bytes is tried.
@@ -123,6 +127,18 @@ fn caught<T>(comparison: impl FnOnce() -> Compared<T>) -> Compared<T> {
 
 impl<R: Reader> Run<'_, R> {
     fn all(&mut self) -> Going {
+        if self.settings.trees_alone {
+            self.small_trees()?;
+            return self.larger_trees();
+        }
+        self.few_bytes()?;
+        self.small_trees()?;
+        self.larger_messages()?;
+        self.larger_trees()?;
+        self.names_and_generated()
+    }
+
+    fn few_bytes(&mut self) -> Going {
         self.kind(
             "fixed: worked cases, limits of length, nesting",
             Self::fixed,
@@ -134,7 +150,7 @@ impl<R: Reader> Run<'_, R> {
             extremes::inputs().try_for_each(|input| run.input(&input))
         })?;
         self.kind("children generated, and damaged copies", |run| {
-            run.generated(run.settings.generated / 4, children::good)
+            run.generated(run.settings.generated / 4, children::good, damaged)
         })?;
         self.kind("every dictionary of few bytes", Self::every_dictionary)?;
         self.kind(
@@ -148,10 +164,37 @@ impl<R: Reader> Run<'_, R> {
         self.kind(
             "every object of telling bytes, two dictionaries",
             Self::telling_objects,
-        )?;
+        )
+    }
+
+    fn small_trees(&mut self) -> Going {
+        self.kind("trees: worked cases, levels, many ways", |run| {
+            trees::fixed().try_for_each(|input| run.input(&input))
+        })?;
+        self.kind("every tree of telling bytes, two dictionaries", |run| {
+            run.telling_trees()
+        })?;
+        self.kind("trees generated, and damaged copies", |run| {
+            run.generated(run.settings.trees, trees::good, trees::damaged)
+        })
+    }
+
+    fn larger_trees(&mut self) -> Going {
+        self.kind("larger trees, generated, and damaged copies", |run| {
+            run.generated(run.settings.large / 10, trees::larger, trees::damaged)
+        })?;
+        self.kind("trees about the limit of length", |run| {
+            trees::of_length().try_for_each(|input| run.input(&input))
+        })
+    }
+
+    fn larger_messages(&mut self) -> Going {
         self.kind("larger messages: widths' ends, limits of length", |run| {
             large::fixed().try_for_each(|input| run.input(&input))
-        })?;
+        })
+    }
+
+    fn names_and_generated(&mut self) -> Going {
         self.kind("long names, plain but for a place or two", |run| {
             long_names::plain(|dict| run.dictionary(dict))
         })?;
@@ -171,10 +214,10 @@ impl<R: Reader> Run<'_, R> {
             long_names::sets(|input| run.input(input))
         })?;
         self.kind("generated, and damaged copies", |run| {
-            run.generated(run.settings.generated, good)
+            run.generated(run.settings.generated, good, damaged)
         })?;
         self.kind("larger messages, generated, and damaged copies", |run| {
-            run.generated(run.settings.large, large::good)
+            run.generated(run.settings.large, large::good, damaged)
         })
     }
 
@@ -275,6 +318,19 @@ impl<R: Reader> Run<'_, R> {
         self.objects(lengths.map(|length| (length, heads.clone(), tails.clone())))
     }
 
+    /// Every short value of telling bytes, as a tree.
+    fn telling_trees(&mut self) -> Going {
+        let longest = self.settings.telling - 1;
+        for dict in [SORTED, UNSORTED] {
+            (0..=longest).try_for_each(|length| {
+                each(length, &trees::HEADS, &trees::TAILS, |value| {
+                    self.input(&Input::tree(dict.to_vec(), value.to_vec()))
+                })
+            })?;
+        }
+        Ok(())
+    }
+
     /// Every object of some lengths and alphabets, over both dictionaries.
     fn objects(&mut self, alphabets: impl Iterator<Item = (usize, Vec<u8>, Vec<u8>)>) -> Going {
         let alphabets: Vec<_> = alphabets.collect();
@@ -296,7 +352,12 @@ impl<R: Reader> Run<'_, R> {
     }
 
     /// So many inputs, good ones of a kind and damaged copies of these.
-    fn generated(&mut self, inputs: u64, good: fn(&mut Random) -> Input) -> Going {
+    fn generated(
+        &mut self,
+        inputs: u64,
+        good: fn(&mut Random) -> Input,
+        damaged: fn(&mut Random, &Input) -> Input,
+    ) -> Going {
         let mut random = Random::seeded(self.settings.seed);
         while self.count < inputs {
             let input = good(&mut random);
@@ -345,6 +406,9 @@ fn lines_of(input: &Input) -> String {
     let mut text = part("dictionary", &input.dict);
     if let Some(object) = &input.object {
         text += &part("object    ", object);
+    }
+    if let Some(value) = &input.tree {
+        text += &part("tree      ", value);
     }
     if let Some(query) = &input.query {
         text += &part("name      ", query);

@@ -5,7 +5,9 @@
 
 use crate::Input;
 use crate::encode::put;
-use crate::reading::{DictionaryParts, ObjectParts, Row};
+use crate::reading::{DictionaryParts, ObjectParts, Row, list_offsets};
+use crate::reference::{is_container, rows_of};
+use crate::trees::nodes;
 use std::ops::Range;
 use std::time::{Duration, Instant};
 
@@ -20,12 +22,13 @@ fn tries(size: usize) -> usize {
     (0x80_0000 / size).clamp(2, 32)
 }
 
-/// One of the three byte strings of an input.
+/// One of the byte strings of an input.
 type Part = fn(&mut Input) -> Option<&mut Vec<u8>>;
 
-const PARTS: [Part; 3] = [
+const PARTS: [Part; 4] = [
     |input| input.query.as_mut(),
     |input| input.object.as_mut(),
+    |input| input.tree.as_mut(),
     |input| Some(&mut input.dict),
 ];
 
@@ -36,8 +39,9 @@ struct Things {
     without: fn(&Input, Range<usize>) -> Option<Input>,
 }
 
-/// Fields, entries, and bytes of the object's region and of the dictionary's.
-const THINGS: [Things; 4] = [
+/// Fields, entries, and bytes of the object's region and of the dictionary's; children of a tree, and
+/// bytes anywhere in it.
+const THINGS: [Things; 6] = [
     Things {
         count: |input| Some(Apart::of_object(input.object.as_ref()?)?.ids.len()),
         without: |input, run| {
@@ -49,13 +53,17 @@ const THINGS: [Things; 4] = [
         count: |input| Some(Apart::of_dictionary(&input.dict)?.offsets.len() - 1),
         without: |input, run| {
             let dict = Apart::of_dictionary(&input.dict)?.without_entries(run.clone())?;
-            let object = input.object.as_deref().and_then(Apart::of_object);
+            let without = |bytes: &mut Vec<u8>| {
+                if let Some(object) = Apart::of_object(bytes) {
+                    *bytes = object.without_ids(run.clone()).bytes();
+                }
+            };
             let mut fewer = input.clone();
             fewer.dict = dict.bytes();
-            match object {
-                Some(object) => Some(with_object(&fewer, object.without_ids(run))),
-                None => Some(fewer),
-            }
+            fewer.object.iter_mut().for_each(without);
+            let trees = fewer.tree.iter_mut().filter(|tree| is_object(tree));
+            trees.for_each(without);
+            Some(fewer)
         },
     },
     Things {
@@ -75,7 +83,52 @@ const THINGS: [Things; 4] = [
             Some(fewer)
         },
     },
+    Things {
+        count: |input| Some(Apart::of_tree(input.tree.as_ref()?)?.offsets.len() - 1),
+        without: |input, run| {
+            let tree = Apart::of_tree(input.tree.as_ref()?)?;
+            Some(with_tree(input, tree.without_fields(run).bytes()))
+        },
+    },
+    Things {
+        count: |input| input.tree.as_ref().map(Vec::len),
+        without: |input, run| Some(with_tree(input, without_run(input.tree.as_ref()?, run))),
+    },
 ];
+
+fn with_tree(input: &Input, tree: Vec<u8>) -> Input {
+    Input {
+        tree: Some(tree),
+        ..input.clone()
+    }
+}
+
+fn is_object(value: &[u8]) -> bool {
+    value.first().is_some_and(|header| header & 3 == 2)
+}
+
+/// A tree without a run of its bytes: the offsets of each container that has the run among its
+/// children's bytes count on.
+fn without_run(tree: &[u8], run: Range<usize>) -> Vec<u8> {
+    let mut copy = tree.to_vec();
+    for node in nodes(tree) {
+        let bytes = &tree[node.clone()];
+        let Some((_, offsets)) = rows_of(bytes).filter(|_| is_container(bytes)) else {
+            continue;
+        };
+        let region = node.start + offsets.end();
+        if run.start < region || node.end < run.end {
+            continue;
+        }
+        let numbers = offsets.numbers(bytes).unwrap_or_default();
+        for (index, number) in numbers.into_iter().enumerate() {
+            let gone = (region + number).saturating_sub(run.start).min(run.len());
+            offsets.write(&mut copy[node.clone()], index, number - gone);
+        }
+    }
+    copy.drain(run);
+    copy
+}
 
 fn with_object(input: &Input, object: Apart) -> Input {
     Input {
@@ -111,6 +164,25 @@ impl Apart {
         Apart::of(object, [parts.count, parts.ids, parts.offsets])
     }
 
+    /// The outermost layer of a tree.
+    fn of_tree(tree: &[u8]) -> Option<Apart> {
+        if is_object(tree) {
+            return Apart::of_object(tree);
+        }
+        let offsets = list_offsets(tree).filter(|_| is_container(tree))?;
+        let count = Row {
+            at: 1,
+            width: offsets.at - 1,
+            count: 1,
+        };
+        let no_ids = Row {
+            at: offsets.at,
+            width: 0,
+            count: 0,
+        };
+        Apart::of(tree, [count, no_ids, offsets])
+    }
+
     fn of(bytes: &[u8], rows: [Row; 3]) -> Option<Apart> {
         let [_, ids, offsets] = rows;
         Some(Apart {
@@ -143,8 +215,11 @@ impl Apart {
         self
     }
 
+    /// Without some fields, or elements, which have no ids.
     fn without_fields(mut self, run: Range<usize>) -> Apart {
-        self.ids.drain(run.clone());
+        if !self.ids.is_empty() {
+            self.ids.drain(run.clone());
+        }
         self.offsets.drain(run);
         self
     }
@@ -196,6 +271,8 @@ impl<F: Fn(&Input) -> bool> Search<F> {
         let before = self.input.clone();
         self.change(|input| input.query = None);
         self.change(|input| input.object = None);
+        self.change(|input| input.tree = None);
+        self.inner();
         for things in &THINGS {
             self.fewer(things);
         }
@@ -204,6 +281,19 @@ impl<F: Fn(&Input) -> bool> Search<F> {
             self.lower(part);
         }
         self.input != before
+    }
+
+    /// Takes a value inside a tree for the tree.
+    fn inner(&mut self) {
+        let Some(tree) = self.input.tree.clone() else {
+            return;
+        };
+        for node in nodes(&tree).into_iter().skip(1).rev() {
+            let inner = with_tree(&self.input, tree[node].to_vec());
+            if !self.in_time() || self.keep(inner) {
+                return;
+            }
+        }
     }
 
     fn in_time(&self) -> bool {

@@ -2,6 +2,7 @@
 
 use crate::LARGE;
 use crate::lengths::Told;
+use crate::otherwise::Otherwise;
 use crate::reading::{PAYLOADS, Unmeasured};
 use lichenhusk::Strip;
 use std::collections::BTreeMap;
@@ -52,6 +53,18 @@ pub struct Tally {
     pub values_of_refused: u64,
     /// Values that both refuse, by our number.
     pub values_refused: BTreeMap<u32, u64>,
+    /// Trees whose verdicts are the reference's, by our number.
+    pub trees: BTreeMap<u32, u64>,
+    /// Of these, the ones that both accept.
+    pub trees_of_both: u64,
+    /// The ones that one of both accepts, by what is otherwise.
+    pub trees_otherwise: BTreeMap<Otherwise, u64>,
+    /// The ones with so many ways through them that the Rust is not asked.
+    pub trees_of_many_ways: u64,
+    /// Trees over a dictionary that is refused.
+    pub trees_over_refused: u64,
+    /// Values in trees that both accept, each compared.
+    pub tree_values: u64,
     /// Lookups that found what `get` yields.
     pub found: u64,
     /// Lookups that are absent where `get` yields nothing.
@@ -194,6 +207,22 @@ impl fmt::Display for Tally {
         for (number, count) in &self.values_refused {
             line(&format!("values refused by both, {number}"), *count)?;
         }
+        for (number, count) in &self.trees {
+            match number {
+                0 => line("trees accepted", *count)?,
+                _ => line(&format!("trees refused, {number}"), *count)?,
+            }
+        }
+        line("  accepted by both", self.trees_of_both)?;
+        for (otherwise, count) in &self.trees_otherwise {
+            line(&format!("  by one: {}", otherwise.label()), *count)?;
+        }
+        line(
+            "  of many ways, the Rust not asked",
+            self.trees_of_many_ways,
+        )?;
+        line("  over a refused dictionary", self.trees_over_refused)?;
+        line("values in trees, each compared", self.tree_values)?;
         line("lookups found", self.found)?;
         line("lookups absent", self.absent)?;
         line(

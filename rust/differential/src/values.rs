@@ -95,7 +95,7 @@ fn refusal_of(error: &ArrowError) -> u32 {
 }
 
 /// What is due to bytes from which the Rust reads a value.
-fn told_by(value: &Variant, bytes: &[u8]) -> Compared<Strip> {
+pub fn told_by(value: &Variant, bytes: &[u8]) -> Compared<Strip> {
     let part = |kind: Kind, part: &[u8]| {
         let start = place_in(part, bytes);
         accepted(kind.number() as usize, start, start + part.len())

@@ -1,10 +1,11 @@
 //! Where the two sides differ, or the Rust differs from its own documentation: each with a small
 //! input. These are known, and outside of what is compared.
 
-use differential::encode::{ObjectShape, object as object_of, plain_object};
+use differential::encode::{self, ObjectShape, object as object_of, plain_object};
 use differential::exhaustive::{all_bytes, each};
 use differential::fixed::SORTED;
-use lichenhusk::{LIMIT, Refusal, Value};
+use differential::trees::nest;
+use lichenhusk::{LEVELS, LIMIT, Refusal, Value};
 use parquet_variant::{MAX_NESTING_DEPTH, Variant, VariantMetadata, VariantObject, VariantPath};
 use std::panic::catch_unwind;
 use std::time::{Duration, Instant};
@@ -218,6 +219,143 @@ fn nesting() {
     assert!(!rust_accepts(SORTED, &nested(129)));
     assert!(lichenhusk::layer(SORTED, &nested(129)).is_ok());
     assert!(lichenhusk::list(SORTED, &nested(129)).is_ok());
+}
+
+/// Our check of a whole tree over document 01's dictionary: its own length, or the number and the start
+/// of what is refused; and whether the Rust's full validation accepts it.
+fn tree(value: &[u8]) -> (Result<usize, (u32, usize)>, bool) {
+    let ours = lichenhusk::check_tree(SORTED, value);
+    let ours = ours.map_err(|refused| (refused.refusal.number(), refused.start));
+    (ours, Variant::try_new(SORTED, value).is_ok())
+}
+
+/// What a leaf says is not judged, but for a text; the Rust refuses these, as it does alone. Of each
+/// kind no shorter value is refused for what it says.
+#[test]
+fn leaves_that_the_rust_refuses() {
+    for value in [
+        &b"\x20\x0A\x00\x00\x00\x00"[..],
+        b"\x20\x00\x00\xCA\x9A\x3B",
+        b"\x24\x13\x00\x00\x00\x00\x00\x00\x00\x00",
+        b"\x24\x00\x00\x00\x64\xA7\xB3\xB6\xE0\x0D",
+        &[&[0x28, 0x27][..], &[0; 16]].concat(),
+        &[&[0x28, 0][..], &10_i128.pow(38).to_le_bytes()].concat(),
+        b"\x2C\xFF\xFF\xFF\x7F",
+        b"\x30\xFF\xFF\xFF\xFF\xFF\xFF\xFF\x7F",
+        b"\x34\xFF\xFF\xFF\xFF\xFF\xFF\xFF\x7F",
+        b"\x44\x00\x60\xD7\x1D\x14\x00\x00\x00",
+    ] {
+        assert_eq!(tree(value), (Ok(value.len()), false), "{value:02X?}");
+        let list = encode::list(&[value.to_vec()]);
+        assert_eq!(tree(&list), (Ok(list.len()), false), "{value:02X?}");
+    }
+    // The last that it takes, of each.
+    for value in [
+        &b"\x20\x09\xFF\xC9\x9A\x3B"[..],
+        b"\x24\x12\xFF\xFF\x63\xA7\xB3\xB6\xE0\x0D",
+        &[&[0x28, 38][..], &(10_i128.pow(38) - 1).to_le_bytes()].concat(),
+        &[&[0x2C][..], &95_026_236_i32.to_le_bytes()].concat(),
+        b"\x44\xFF\x5F\xD7\x1D\x14\x00\x00\x00",
+    ] {
+        assert_eq!(tree(value), (Ok(value.len()), true), "{value:02X?}");
+    }
+}
+
+/// A list's first offset may be above 0: the elements begin where it says. No shorter value is such a
+/// list, and no shorter one that we accept is refused by the Rust.
+#[test]
+fn first_offsets_of_lists() {
+    assert_eq!(tree(b"\x03\x00\x01\x00"), (Ok(4), false));
+    assert_eq!(tree(b"\x03\x01\x01\x02\xFC\x00"), (Ok(6), false));
+    assert_eq!(tree(b"\x03\x01\x00\x02\x00\xFC"), (Ok(6), true));
+    for length in 0..4 {
+        each(length, &all_bytes(), &all_bytes(), |value| {
+            let (ours, theirs) = tree(value);
+            assert_eq!(ours.is_ok(), theirs, "{value:02X?}");
+            Ok::<(), ()>(())
+        })
+        .unwrap();
+    }
+}
+
+/// Both refuse an element of no bytes; ours is the element's own refusal, at its place.
+#[test]
+fn empty_elements() {
+    assert_eq!(tree(b"\x03\x01\x00\x00"), (Err((50, 4)), false));
+    assert_eq!(tree(b"\x02\x01\x00\x00\x00"), (Err((28, 0)), false));
+}
+
+/// Which refusal is first: ours are all of a list's offsets before any of its elements; the Rust looks
+/// into an element before it slices the next. Both refuse, and its words are the element's.
+#[test]
+fn offsets_before_elements() {
+    let value = b"\x03\x03\x00\x01\x00\x01\x54";
+    assert_eq!(tree(value), (Err((62, 0)), false));
+    let error = Variant::try_new(SORTED, value).unwrap_err().to_string();
+    assert!(error.contains("unknown primitive type"), "{error}");
+}
+
+/// 32 levels and 128: what has from 33 to 128 the Rust accepts, and we refuse with 52 at the 33rd. No
+/// shorter value has so many: a list of one list adds four bytes while its region has fewer than 256.
+#[test]
+fn levels() {
+    assert_eq!((LEVELS, MAX_NESTING_DEPTH), (32, 128));
+    let lists = |levels| nest(levels, &[0], |_| true);
+    let smallest = nest(32, b"\x03\x00\x00", |_| true);
+    assert_eq!(
+        (smallest.len(), tree(&smallest)),
+        (131, (Err((52, 128)), true))
+    );
+    assert_eq!(tree(&lists(32)), (Ok(129), true));
+    for levels in [33, 128] {
+        let (ours, theirs) = tree(&lists(levels));
+        assert!(matches!(ours, Err((52, _))) && theirs, "{levels}");
+    }
+    let (ours, theirs) = tree(&lists(129));
+    assert!(matches!(ours, Err((52, _))) && !theirs);
+    let objects = nest(33, &[0], |_| false);
+    assert_eq!(tree(&objects), (Err((52, 160)), true));
+}
+
+/// 20: the Rust has no limit of length.
+#[test]
+fn long_trees() {
+    let value = vec![0; LIMIT + 1];
+    assert_eq!(tree(&value), (Err((20, 0)), true));
+    assert_eq!(tree(&value[1..]), (Ok(1), true));
+}
+
+/// The time of the Rust's check doubles with each level of two fields that share a child, and ours
+/// does not; the tree of 31 levels has 311 bytes.
+#[test]
+fn ways_through_a_tree() {
+    let shared = |levels| {
+        (0..levels).fold(vec![0], |child: Vec<u8>, _| {
+            let shape = ObjectShape {
+                id_width: 1,
+                offset_width: 2,
+                long_count: false,
+                spare: false,
+            };
+            object_of(&[0, 1], &[0, 0, child.len()], &child, shape)
+        })
+    };
+    let theirs = |levels| {
+        let value = shared(levels);
+        let run = |_| {
+            let started = Instant::now();
+            assert!(Variant::try_new(SORTED, &value).is_ok());
+            started.elapsed()
+        };
+        (0..3).map(run).min().unwrap_or(Duration::ZERO)
+    };
+    let (quick, slow) = (theirs(9), theirs(14));
+    assert!(slow > 8 * quick, "{quick:?} and {slow:?}");
+    let deepest = shared(31);
+    assert_eq!(deepest.len(), 311);
+    let started = Instant::now();
+    assert_eq!(lichenhusk::check_tree(SORTED, &deepest), Ok(311));
+    assert!(started.elapsed() < Duration::from_secs(1));
 }
 
 /// Documented as free of panics on what was not validated, `get` panics all the same.

@@ -3,12 +3,13 @@
 
 use differential::compare::Disagreement;
 use differential::faults::{ALL, Fault, Faulty};
+use differential::otherwise::Otherwise;
 use differential::ours::Archive;
 use differential::reading::Unmeasured;
 use differential::run::{Settings, disagreement, run};
 use differential::tally::Tally;
 use differential::{Input, LARGE, fixed, hex, large};
-use lichenhusk::LIMIT;
+use lichenhusk::{LEVELS, LIMIT};
 use std::collections::BTreeMap;
 use std::process::Command;
 use std::time::Duration;
@@ -19,6 +20,8 @@ fn small() -> Settings {
         seed: 7,
         generated: 4_000,
         large: 8,
+        trees: 4_000,
+        trees_alone: false,
         every: 2,
         telling: 5,
         limit: Duration::from_secs(600),
@@ -31,7 +34,11 @@ fn told(fault: Fault) -> (Input, Disagreement) {
         reader: Archive,
         fault,
     };
-    let outcome = run(&faulty, small());
+    let settings = Settings {
+        trees_alone: asked_of_trees(fault).is_some(),
+        ..small()
+    };
+    let outcome = run(&faulty, settings);
     outcome
         .disagreement
         .unwrap_or_else(|| panic!("{fault:?} is not told"))
@@ -49,6 +56,37 @@ fn the_archive_passes() {
     }
     children_of_every_kind_are_seen(&outcome.tally);
     values_of_every_kind_are_seen(&outcome.tally);
+    trees_of_every_kind_are_seen(&outcome.tally);
+}
+
+/// Trees get every number, and each thing is seen that the Rust judges otherwise.
+fn trees_of_every_kind_are_seen(tally: &Tally) {
+    let numbers = (23..=28).chain(50..=52).chain([0, 54]).chain(60..=62);
+    for number in numbers {
+        let seen = tally.trees.get(&number);
+        assert!(seen.is_some_and(|&seen| seen > 10), "{number}: {seen:?}");
+    }
+    use Otherwise::*;
+    for otherwise in [
+        FirstOffset,
+        Scale,
+        Digits,
+        Date,
+        Timestamp,
+        Time,
+        Levels,
+        Length,
+    ] {
+        let seen = tally.trees_otherwise.get(&otherwise);
+        assert!(
+            seen.is_some_and(|&seen| seen > 1),
+            "{otherwise:?}: {seen:?}"
+        );
+    }
+    let (both, values) = (tally.trees_of_both, tally.tree_values);
+    assert!(both > 1_000 && values > 5_000, "{both} and {values}");
+    let (ways, over) = (tally.trees_of_many_ways, tally.trees_over_refused);
+    assert!(ways > 5 && over > 20, "{ways} and {over}");
 }
 
 /// Children of every kind are listed, and listings refused for every cause.
@@ -102,6 +140,10 @@ fn most(fault: Fault) -> usize {
         Fault::CountsOfTwoBytes | Fault::IdsOfTwoBytes => 3 * entries + few,
         // With names, and as many fields: an id and an offset each.
         Fault::FieldsOfTwoBytes | Fault::RowsOfTwoBytes => (4 + 6 + 3 + 2) * entries + 2 * few,
+        Fault::NoTreeLimit => LIMIT + 1 + few,
+        // Lists in one another, of four bytes each, or objects, of five.
+        Fault::OneLevelLess | Fault::OneLevelMore => 4 * (LEVELS + 1) + few,
+        Fault::DepthAfterChecks | Fault::MarksWithoutLevels => 5 * (LEVELS + 1) + few,
         // A child of seventeen bytes, or without the last of them.
         Fault::ShortDecimals | Fault::NoUuids => few + 17,
         _ => few,
@@ -117,6 +159,8 @@ fn each_fault_is_told_by_a_small_input() {
         assert_ne!(found.ours, found.theirs, "{fault:?}");
         let of_lengths = asked_of_lengths(fault);
         assert_eq!(found.asked, of_lengths.unwrap_or(&found.asked), "{fault:?}");
+        let of_trees = asked_of_trees(fault);
+        assert_eq!(found.asked, of_trees.unwrap_or(&found.asked), "{fault:?}");
         let of_values = asked_of_values(fault);
         assert!(found.asked.starts_with(of_values), "{fault:?}: {found}");
     }
@@ -145,8 +189,23 @@ fn asked_of_values(fault: Fault) -> &'static str {
     match fault {
         Fault::UnknownIsShort | Fault::UnknownIsNull => "a value that is not read",
         Fault::ShortIsUnknown => "a value that is not read",
-        _ if fault as usize >= Fault::ReadsUnsigned as usize => "to read ",
+        _ if is_of_values(fault) => "to read ",
         _ => "",
+    }
+}
+
+fn is_of_values(fault: Fault) -> bool {
+    (Fault::ReadsUnsigned as usize..=Fault::RefusesTexts as usize).contains(&(fault as usize))
+}
+
+/// What tells a wrong answer to a tree; nothing of another fault.
+fn asked_of_trees(fault: Fault) -> Option<&'static str> {
+    match fault {
+        Fault::TreeBeforeDictionary => Some("a tree over a refused dictionary"),
+        Fault::KeepsMarks | Fault::KeepsMarksRefused => Some("marks after a check"),
+        Fault::TrustsMarks => Some("a tree's verdict with marks"),
+        _ if fault as usize >= Fault::AcceptsAnyTree as usize => Some("a tree's verdict"),
+        _ => None,
     }
 }
 
@@ -158,7 +217,7 @@ fn every_fault_is_tried() {
             "in the order of the enum, none left out"
         );
     }
-    assert_eq!(Fault::RefusesTexts as usize, ALL.len() - 1);
+    assert_eq!(Fault::TrustsMarks as usize, ALL.len() - 1);
 }
 
 /// Of very many fields, the lookup of all their names is told, which stands for the listing.
@@ -259,6 +318,9 @@ fn a_panic_is_told() {
             unreachable!()
         }
         fn value(&self, _: &[u8]) -> lichenhusk::Strip {
+            unreachable!()
+        }
+        fn tree(&self, _: &[u8], _: &[u8], _: &mut [u8]) -> lichenhusk::Strip {
             unreachable!()
         }
     }

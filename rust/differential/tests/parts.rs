@@ -11,10 +11,14 @@ use differential::original::{layer_number, traced, traced_start};
 use differential::ours::{Archive, Reader, accepted, refused};
 use differential::random::Random;
 use differential::reading::{DictionaryParts, ObjectParts, PAYLOADS, Unmeasured, own_length};
+use differential::reference::Tree;
 use differential::tally::Tally;
+use differential::tree::{children as children_of, visits};
 use differential::values::{Readings, place};
-use differential::{Input, LARGE, children, damage, extremes, fixed, generate, hex, large, shrink};
-use parquet_variant::{VariantMetadata, VariantObject};
+use differential::{
+    Input, LARGE, children, damage, extremes, fixed, generate, hex, large, otherwise, shrink, trees,
+};
+use parquet_variant::{Variant, VariantMetadata, VariantObject};
 use std::collections::BTreeSet;
 use std::time::Duration;
 
@@ -88,6 +92,7 @@ fn shrinks_to_what_matters() {
         dict: b"many bytes and a Z between".to_vec(),
         object: Some(vec![9; 100]),
         query: Some(vec![1, 2, 3]),
+        ..Input::default()
     };
     let has_z = |input: &Input| input.dict.contains(&b'Z') && input.object.is_some();
     let small = shrink::smallest(input, PATIENCE, has_z);
@@ -436,4 +441,106 @@ fn ends_that_fall_or_pass_the_run() {
 fn bytes_in_hex() {
     assert_eq!(hex(&[]), "-");
     assert_eq!(hex(&[0, 0xAB]), "00AB");
+}
+
+/// Every primitive value of a few payloads: the Rust refuses it exactly where a predicate says that it
+/// judges it otherwise, in the words that are told.
+#[test]
+fn leaves_judged_otherwise() {
+    let metadata = VariantMetadata::try_new(fixed::SORTED).unwrap();
+    let mut seen = BTreeSet::new();
+    let inputs = trees::fixed().map(|input| input.tree.expect("a tree"));
+    let mut random = Random::seeded(3);
+    let generated = (0..20_000).map(|_| {
+        let kind = random.below(PAYLOADS.len());
+        let payload = (0..PAYLOADS[kind]).map(|_| random.byte());
+        std::iter::once((kind as u8) << 2).chain(payload).collect()
+    });
+    let leaf = |value: &Vec<u8>| value.first().is_some_and(|header| header & 3 == 0);
+    let whole = |value: &Vec<u8>| own_length(value).is_ok() && value[0] >> 2 != 16;
+    let values: Vec<Vec<u8>> = inputs.chain(generated).collect();
+    for value in values.iter().filter(|value| leaf(value) && whole(value)) {
+        let theirs = Variant::try_new_with_metadata(metadata.clone(), value);
+        match (otherwise::of_leaf(value), theirs) {
+            (None, Ok(_)) => {}
+            (Some(due), Err(error)) => {
+                assert!(error.to_string().contains(due.words()), "{due:?}: {error}");
+                seen.insert(due);
+            }
+            (due, theirs) => panic!("{}: {due:?} and {theirs:?}", hex(value)),
+        }
+    }
+    use otherwise::Otherwise::*;
+    assert_eq!(seen, BTreeSet::from([Scale, Digits, Date, Timestamp, Time]));
+}
+
+/// The reference says the same with a memory of what it found good and without.
+#[test]
+fn the_reference_remembers_nothing_wrong() {
+    let mut random = Random::seeded(8);
+    let mut refused = 0;
+    for _ in 0..3_000 {
+        let good = trees::good(&mut random);
+        for input in [trees::damaged(&mut random, &good), good] {
+            let (dict, value) = (&input.dict, input.tree.as_ref().expect("a tree"));
+            let is_good = VariantMetadata::try_new(dict).is_ok();
+            if !is_good || visits(value, 1_000) == 1_000 {
+                continue;
+            }
+            let plain = Tree::new(dict, value).verdict();
+            let remembering = Tree::new(dict, value).remembering().verdict();
+            assert_eq!(plain, remembering, "{} {}", hex(dict), hex(value));
+            refused += u64::from(plain.code != 0);
+        }
+    }
+    assert!(refused > 1_000, "{refused}");
+}
+
+/// The ways through a tree: each value once for each way, no more than asked.
+#[test]
+fn ways_through_a_tree() {
+    assert_eq!(visits(&[0], 100), 1);
+    assert_eq!(visits(b"", 100), 1);
+    assert_eq!(visits(&trees::nest(5, &[0], |_| true), 100), 6);
+    // Of a field's child and its own: 1, 3, 5, 9, 15, .., as Fibonacci's numbers grow.
+    let ways = |levels| visits(&trees::fibonacci(levels, &[0]), 1_000_000);
+    assert_eq!((2..7).map(ways).collect::<Vec<_>>(), [5, 9, 15, 25, 41]);
+    assert_eq!(visits(&trees::fibonacci(32, &[0]), 1_000), 1_000);
+}
+
+/// Generated trees have all that they are for.
+#[test]
+fn trees_of_every_shape() {
+    let mut random = Random::seeded(5);
+    let (mut headers, mut deepest) = (BTreeSet::new(), BTreeSet::new());
+    for _ in 0..20_000 {
+        let input = trees::good(&mut random);
+        let value = input.tree.expect("a tree");
+        if visits(&value, 5_000) < 5_000 {
+            deepest.insert(met(&value, &mut headers));
+        }
+    }
+    // Lists and objects of every offset and id width, both counts; every primitive type.
+    for header in (0..=255_u8).filter(|header| header & 2 != 0) {
+        let is_plain_list = header & 3 == 3 && header & 0xE0 == 0;
+        if header & 3 == 2 || is_plain_list {
+            assert!(headers.contains(&header), "{header:02X}");
+        }
+    }
+    (0..PAYLOADS.len()).for_each(|kind| assert!(headers.contains(&((kind as u8) << 2))));
+    assert!(
+        (0..=33).all(|levels| deepest.contains(&levels)),
+        "{deepest:?}"
+    );
+}
+
+/// How many levels a tree has; the headers that are met are put in.
+fn met(value: &[u8], headers: &mut BTreeSet<u8>) -> usize {
+    headers.extend(value.first());
+    if value.first().is_none_or(|header| header & 2 == 0) {
+        return 0;
+    }
+    let places = children_of(value).map_or(vec![], |(_, places)| places);
+    let below = places.into_iter().map(|place| met(&value[place], headers));
+    1 + below.max().unwrap_or(0)
 }

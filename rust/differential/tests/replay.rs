@@ -32,6 +32,7 @@ fn ours(case: &str) -> (Strip, Vec<u32>) {
         ["name", d, n] => Archive.name(&bytes(d), number(n) as usize),
         ["layer", d, o] => Archive.layer(&bytes(d), &bytes(o)),
         ["value", v] => Archive.value(&bytes(v)),
+        ["tree", d, v] => Archive.tree(&bytes(d), &bytes(v), &mut []),
         ["lookup", d, o, name] => Archive.lookup(&bytes(d), &bytes(o), &bytes(name)),
         ["all", d, o, run, room, ref ends @ ..] => {
             let (d, o, run) = (bytes(d), bytes(o), bytes(run));
@@ -60,7 +61,7 @@ fn holds(case: &str, says: &str, strip: Strip, lent: &[u32]) -> bool {
     let (code, start, place) = (strip.code, strip.start, strip.place);
     let ours = [code, strip.number, strip.id, start, strip.end, place];
     match words[..] {
-        ["accepts", count, end] if case.starts_with("dictionary") => {
+        ["accepts", count, end] if ["dictionary", "tree"].iter().any(|of| case.starts_with(of)) => {
             ours == [0, number(count), 0, 0, number(end), 0]
         }
         ["accepts" | "child", count, end] | ["rows", count, end, ":", ..] => {
@@ -72,23 +73,32 @@ fn holds(case: &str, says: &str, strip: Strip, lent: &[u32]) -> bool {
         }
         ["reads", kind, low, high] => ours == [0, number(kind), 0, number(low), number(high), 0],
         ["absent"] => ours == [1, 0, 0, 0, 0, 0],
+        ["refuses", code, start] => ours == [number(code), 0, 0, number(start), 0, place],
         ["refuses", code] => ours == [number(code), 0, 0, 0, 0, place],
         _ => panic!("no answer: {says}"),
     }
+}
+
+/// The case of a line, and what is said to it.
+fn said(line: &str) -> (&str, &str) {
+    line.split_once(" => ").expect("a case and an answer")
 }
 
 /// What is asked, and the word of the answer with a refusal's number, or that of the rows.
 fn kind(case: &str, says: &str) -> String {
     let first = |text: &str| text.split(' ').next().unwrap_or_default().to_string();
     match first(says).as_str() {
-        "refuses" => format!("{} {says}", first(case)),
+        "refuses" => {
+            let number = says.split(' ').nth(1).unwrap_or_default();
+            format!("{} refuses {number}", first(case))
+        }
         "rows" => format!("{} rows of {}", first(case), case.split(' ').count() - 5),
         word => format!("{} {word}", first(case)),
     }
 }
 
 /// What lines there must be.
-const KINDS: [&str; 40] = [
+const KINDS: [&str; 56] = [
     "dictionary accepts",
     "dictionary refuses 11",
     "dictionary refuses 12",
@@ -129,6 +139,22 @@ const KINDS: [&str; 40] = [
     "value reads",
     "value refuses 50",
     "value refuses 51",
+    "tree accepts",
+    "tree refuses 13",
+    "tree refuses 23",
+    "tree refuses 24",
+    "tree refuses 25",
+    "tree refuses 26",
+    "tree refuses 27",
+    "tree refuses 28",
+    "tree refuses 50",
+    "tree refuses 51",
+    "tree refuses 54",
+    "tree refuses 60",
+    "tree refuses 61",
+    "tree refuses 62",
+    "tree refuses 11",
+    "tree refuses 12",
 ];
 
 #[test]
@@ -137,7 +163,7 @@ fn our_answers_are_as_the_lines_say() {
     assert_eq!(lines.len(), 2000);
     let mut kinds = BTreeSet::new();
     for line in &lines {
-        let (case, says) = line.split_once(" => ").expect("a case and an answer");
+        let (case, says) = said(line);
         let (strip, lent) = ours(case);
         assert!(
             holds(case, says, strip, &lent),

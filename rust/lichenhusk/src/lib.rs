@@ -5,6 +5,7 @@
 //! dictionary and one layer of an object, finds a field by its name, or many by theirs, lists the
 //! fields, and reads a value. It does not look into the children, but for how long each is where they
 //! are listed: a child is handed back as bytes of the object, which can be read as a value in turn.
+//! [`check_tree`] checks a value with all that is below it.
 //!
 //! Each call checks what it is lent from the start, and keeps and copies nothing. Any bytes may
 //! be lent; what is wrong with them is a [`Refusal`] with a number and a place. What a C caller
@@ -45,11 +46,13 @@ mod message;
 pub mod raw;
 mod refusal;
 mod strip;
+mod tree;
 mod value;
 
 pub use message::Message;
 pub use refusal::Refusal;
 pub use strip::Strip;
+pub use tree::{TreeRefusal, check_tree, check_tree_with};
 pub use value::{Child, Kind, Value, find, value};
 
 /// The most bytes that a dictionary, or an object, may have.
@@ -63,6 +66,12 @@ pub const WORDS_PER_FIELD: usize = 3;
 
 /// The words for each of many names.
 pub const WORDS_PER_NAME: usize = 5;
+
+/// The most objects and lists that may stand in one another in a tree.
+pub const LEVELS: usize = 32;
+
+/// The longest value of which the check of a tree needs no marks lent to be fast.
+pub const OWN_MARKS: usize = 65_536;
 
 /// The code of what was accepted, found or written.
 pub const OK: u32 = 0;

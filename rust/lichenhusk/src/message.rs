@@ -1,6 +1,6 @@
 //! A dictionary and an object, asked together.
 
-use crate::{Field, Found, Layer, Refusal, Value};
+use crate::{Field, Found, Layer, Refusal, TreeRefusal, Value};
 
 /// A dictionary and an object over it, as they came.
 ///
@@ -44,6 +44,20 @@ impl<'m> Message<'m> {
     /// ```
     pub fn layer(self) -> Result<Layer, Refusal> {
         crate::layer(self.dict, self.object)
+    }
+
+    /// Checks the message with all that is below it, as [`check_tree`](crate::check_tree()) does.
+    ///
+    /// ```
+    /// use lichenhusk::{Message, Refusal};
+    ///
+    /// let dict = b"\x11\x02\x00\x04\x08flowroll";
+    /// let message = Message::new(dict, b"\x02\x01\x00\x00\x02\x05\xFF");
+    /// let refused = message.check_tree().unwrap_err();
+    /// assert_eq!((refused.refusal, refused.start), (Refusal::ValueNotUtf8, 5));
+    /// ```
+    pub fn check_tree(self) -> Result<usize, TreeRefusal> {
+        crate::check_tree(self.dict, self.object)
     }
 
     /// Looks for the field of a name, as [`lookup`](crate::lookup()) does.

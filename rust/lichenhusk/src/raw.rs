@@ -82,6 +82,17 @@ unsafe extern "C" {
         strip_len: usize,
     ) -> u32;
 
+    fn lichenhusk_tree(
+        dict: *const u8,
+        dict_len: usize,
+        value: *const u8,
+        value_len: usize,
+        marks: *mut u8,
+        marks_len: usize,
+        strip: *mut u8,
+        strip_len: usize,
+    ) -> u32;
+
     fn lichenhusk_empty(room: *mut u8, room_len: usize) -> u32;
 }
 
@@ -186,6 +197,24 @@ pub fn list(dict: &[u8], object: &[u8], words: &mut [u32], strip: &mut [u8]) -> 
 pub fn value(value: &[u8], strip: &mut [u8]) -> u32 {
     // SAFETY: as the head of this module says.
     unsafe { lichenhusk_value(value.as_ptr(), value.len(), strip.as_mut_ptr(), strip.len()) }
+}
+
+/// Checks a value with all that is below it; the strip holds its own length as the end or, refused,
+/// where the value starts that is refused. The marks may hold anything, and are 0 afterwards.
+pub fn tree(dict: &[u8], value: &[u8], marks: &mut [u8], strip: &mut [u8]) -> u32 {
+    // SAFETY: as the head of this module says.
+    unsafe {
+        lichenhusk_tree(
+            dict.as_ptr(),
+            dict.len(),
+            value.as_ptr(),
+            value.len(),
+            marks.as_mut_ptr(),
+            marks.len(),
+            strip.as_mut_ptr(),
+            strip.len(),
+        )
+    }
 }
 
 /// Writes the empty dictionary to the first three bytes of a room.

@@ -1,6 +1,6 @@
 //! Why bytes were refused.
 
-use crate::{LIMIT, STRIP_BYTES};
+use crate::{LEVELS, LIMIT, STRIP_BYTES};
 use std::error::Error;
 use std::fmt;
 
@@ -10,7 +10,8 @@ use std::fmt;
 /// checked: the ends of names before the dictionary, the dictionary before the object, a header
 /// before what it describes, and then entry by entry and field by field: 25 and 26 of each field
 /// first, and when all are done, 27 and 28 of each. Of a listing, 43 comes after these, and 41 last. A
-/// value that is read gets 50 or 51 and no other.
+/// value that is read gets 50 or 51 and no other. Of a tree, an object or a list has its own checks
+/// before its children, and these come in their order.
 ///
 /// ```
 /// let refusal = lichenhusk::dictionary(&[1, 1, 0, 1, 0xFF]).unwrap_err();
@@ -119,6 +120,20 @@ pub enum Refusal {
     ValueShort,
     /// 51: the value is of an unknown primitive type.
     ValueType,
+    /// 52: of a tree, an object or a list stands inside [`LEVELS`] others.
+    ValueTooDeep,
+    /// 54: of a tree, a string is not UTF-8.
+    ValueNotUtf8,
+    /// 60: of a tree, a list ends before its count, its offsets or its elements do.
+    ListShort,
+    /// 61: of a tree, a list's count or last offset asks for a place above 4,294,967,295.
+    ListOverflow,
+    /// 62: of a tree, an element's offset is above the next one or above the length of the elements'
+    /// bytes.
+    ListOffset {
+        /// The first such element.
+        element: u32,
+    },
 }
 
 use Refusal::*;
@@ -162,6 +177,11 @@ impl Refusal {
             45 => NamesEnd { name: place },
             50 => ValueShort,
             51 => ValueType,
+            52 => ValueTooDeep,
+            54 => ValueNotUtf8,
+            60 => ListShort,
+            61 => ListOverflow,
+            62 => ListOffset { element: place },
             _ => return None,
         })
     }
@@ -208,6 +228,11 @@ impl Refusal {
             NamesEnd { .. } => 45,
             ValueShort => 50,
             ValueType => 51,
+            ValueTooDeep => 52,
+            ValueNotUtf8 => 54,
+            ListShort => 60,
+            ListOverflow => 61,
+            ListOffset { .. } => 62,
         }
     }
 
@@ -220,6 +245,7 @@ impl Refusal {
             ObjectOffset { field } | ObjectChildEmpty { field } => field,
             ChildLength { field } => field,
             NamesEnd { name } => name,
+            ListOffset { element } => element,
             _ => 0,
         }
     }
@@ -307,6 +333,23 @@ impl fmt::Display for Refusal {
                 "the value has no bytes, its header is cut, or its own length passes its bytes or 4294967295"
             ),
             ValueType => write!(to, "the value is of an unknown primitive type"),
+            ValueTooDeep => write!(
+                to,
+                "the value is an object or a list inside {LEVELS} others"
+            ),
+            ValueNotUtf8 => write!(to, "the value is a string that is not UTF-8"),
+            ListShort => write!(
+                to,
+                "the list ends before its count, its offsets or its elements do"
+            ),
+            ListOverflow => write!(
+                to,
+                "the list's count or last offset asks for a place above 4294967295"
+            ),
+            ListOffset { element } => write!(
+                to,
+                "the offset of the list's element {element} is above the next or above the length of the elements' bytes"
+            ),
         }
     }
 }

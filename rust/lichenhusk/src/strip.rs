@@ -20,9 +20,10 @@ pub struct Strip {
     pub number: u32,
     /// The dictionary's entry that is the name of a field that was found.
     pub id: u32,
-    /// Where what was found starts; of a value that is a number, the low half of its bits.
+    /// Where what was found starts; of a value that is a number, the low half of its bits; of a tree
+    /// that is refused, where the value starts that it is for.
     pub start: u32,
-    /// Where it ends; of such a value, the high half.
+    /// Where it ends; of such a value, the high half; of a tree, how long the value is.
     pub end: u32,
     /// The place of a refusal.
     pub place: u32,

@@ -1,6 +1,9 @@
 //! The C header says what this crate says: the same numbers, and an example that runs.
 
-use lichenhusk::{ABSENT, Kind, LIMIT, OK, Refusal, STRIP_BYTES, WORDS_PER_FIELD, WORDS_PER_NAME};
+use lichenhusk::{
+    ABSENT, Kind, LEVELS, LIMIT, OK, OWN_MARKS, Refusal, STRIP_BYTES, WORDS_PER_FIELD,
+    WORDS_PER_NAME,
+};
 use std::collections::BTreeMap;
 use std::fmt::Debug;
 use std::fs;
@@ -57,6 +60,8 @@ fn every_number_is_there() {
             WORDS_PER_NAME as u32,
         ),
         ("LICHENHUSK_EMPTY_BYTES".to_string(), 3),
+        ("LICHENHUSK_LEVELS".to_string(), LEVELS as u32),
+        ("LICHENHUSK_OWN_MARKS".to_string(), OWN_MARKS as u32),
     ]);
     let words = ["CODE", "NUMBER", "ID", "START", "END", "PLACE"];
     for (index, word) in words.into_iter().enumerate() {
@@ -241,6 +246,47 @@ int main(void)
     return 0;
 }
 "#;
+
+/// The object of the example as a tree, with marks and without, then a string in a list in it that is
+/// not UTF-8.
+const TREE: &str = r#"
+#include <stdio.h>
+#include "lichenhusk.h"
+
+static uint8_t strip[LICHENHUSK_STRIP_BYTES];
+
+static unsigned word(enum lichenhusk_word_index which)
+{
+    return (unsigned) lichenhusk_word(strip, which);
+}
+
+int main(void)
+{
+    const uint8_t dict[] = {0x11, 2, 0, 4, 8, 'f', 'l', 'o', 'w', 'r', 'o', 'l', 'l'};
+    const uint8_t object[] = {0x02, 2, 0, 1, 1, 0, 3, 4, 0x0C, 0xFB, 0xFF};
+    const uint8_t deeper[] = {0x02, 1, 0, 0, 8, 0x03, 2, 0, 1, 3, 0x00, 0x05, 0x80};
+    uint8_t marks[] = {1, 2, 3};
+
+    if (lichenhusk_tree(dict, sizeof dict, object, sizeof object, marks, sizeof marks,
+                        strip, sizeof strip) != LICHENHUSK_OK)
+        return 1;
+    printf("%u bytes, marks %u %u %u; ", word(LICHENHUSK_END),
+           (unsigned) marks[0], (unsigned) marks[1], (unsigned) marks[2]);
+    if (lichenhusk_tree(dict, sizeof dict, deeper, sizeof deeper, marks, 0,
+                        strip, sizeof strip) != LICHENHUSK_VALUE_NOT_UTF8)
+        return 1;
+    printf("then the value at %u\n", word(LICHENHUSK_START));
+    return 0;
+}
+"#;
+
+#[test]
+fn a_tree_from_c() {
+    assert_eq!(
+        printed("tree", TREE),
+        "10 bytes, marks 0 0 0; then the value at 11\n"
+    );
+}
 
 #[test]
 fn values_from_c() {

@@ -18,7 +18,7 @@ const CHILD_UNKNOWN: &str = "02 02 00 01 00 01 02 00 FC";
 type Call = (&'static str, fn(&mut [u8]) -> u32);
 
 /// Each call that fills a strip, on bytes that are accepted.
-fn calls() -> [Call; 7] {
+fn calls() -> [Call; 8] {
     [
         ("lookup", |strip| {
             raw::lookup(&hex(D), &hex(P), b"roll", strip)
@@ -33,11 +33,14 @@ fn calls() -> [Call; 7] {
             raw::lookup_all(&hex(D), &hex(P), b"roll", &[4], &mut [0; 5], strip)
         }),
         ("value", |strip| raw::value(&[0x0C, 0xFB], strip)),
+        ("tree", |strip| {
+            raw::tree(&hex(D), &hex(P), &mut [7; 3], strip)
+        }),
     ]
 }
 
 /// Each call that fills a strip, on bytes that are refused.
-fn refused_calls() -> [Call; 7] {
+fn refused_calls() -> [Call; 8] {
     [
         ("lookup", |strip| raw::lookup(&[2], &hex(P), b"roll", strip)),
         ("dictionary", |strip| raw::dictionary(&[2], strip)),
@@ -48,6 +51,7 @@ fn refused_calls() -> [Call; 7] {
             raw::lookup_all(&[2], &hex(P), b"roll", &[4], &mut [0; 5], strip)
         }),
         ("value", |strip| raw::value(&[0xFC], strip)),
+        ("tree", |strip| raw::tree(&[2], &hex(P), &mut [7; 3], strip)),
     ]
 }
 
