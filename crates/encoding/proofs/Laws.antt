@@ -58,6 +58,11 @@ object-says b w e =
     let two : b % 4 ≡ 2 = sym (type-is b) ∙ ap typeOf e in
     let same : header.Object w ≡ header.Object (objectWidths b) = sym (is-object b two ∙ e) in (two, cc)
 
+pub list-says : (b : ℕ) (w : Widths) → headerOf b ≡ header.List w → (b % 4 ≡ 3) × (w ≡ listWidths b)
+list-says b w e =
+    let three : b % 4 ≡ 3 = sym (type-is b) ∙ ap typeOf e in
+    let same : header.List w ≡ header.List (listWidths b) = sym (is-list b three ∙ e) in (three, cc)
+
 few-count : (bit : ℕ) → (1 ≤ countWidth bit) × (countWidth bit ≤ 4)
 unfolding countWidth
 few-count bit = go (eqb bit 1)

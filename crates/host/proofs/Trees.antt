@@ -1,6 +1,6 @@
 -- What a host learns of a tree: the strip's words, exactly when, and the marks; a refusal's number, place and start fit 32 bits, and the start
 -- is within the value. Assumes nothing.
-use Rattle.rules.proofs.Prelude.{_≡_, refl, sym, ap, _∙_, _↔_, List, [], _∷_, ℕ, _+_, _≤_, _<_, mul-le-mul-right, decLt, arith, lt-ltb, le-ltb}
+use Rattle.rules.proofs.Prelude.{_≡_, refl, sym, ap, _∙_, _↔_, List, [], _∷_, ℕ, _+_, _≤_, _<_, decLt, arith, lt-ltb, le-ltb}
 use Rattle.rules.proofs.Prelude.{length, getD, length-drop, length-take}
 use Rattle.width.specs.Limits.{u32Max}
 use Rattle.part.specs.Part.{part}
@@ -9,11 +9,11 @@ use Rattle.metadata.proofs.Fits as dictionary-fits
 use Rattle.metadata.proofs.Refuses as dictionary-refuses
 use Rattle.layout.specs.declared.Widths.{Widths}
 use Rattle.layout.specs.Layout.{count, childStart, start, end}
-use Rattle.layout.proofs.Laws.{end-is}
+use Rattle.layout.proofs.Laws.{end-is, count-below}
 use Rattle.encoding.specs.declared.Header.the-variants as header
 use Rattle.encoding.specs.declared.Length.the-variants.{Known}
 use Rattle.encoding.specs.Encoding.{listWidths, ownLength, bytesOf}
-use Rattle.encoding.proofs.Laws.{is-list, typeOf, type-is}
+use Rattle.encoding.proofs.Laws.{list-says}
 use Rattle.encoding.proofs.Means.{known}
 use Rattle.layer.specs.Object.{id, fieldName}
 use Rattle.layer.specs.Meaning as object
@@ -59,14 +59,8 @@ part-inside s a e p = simp (length-take, length-drop) (omega arith)
 
 -- there are fewer elements than bytes of a list's header
 list-few : (s : List ℕ) (w : Widths) → headOf s ≡ header.List w → count w s < start w s
-unfolding start listWidths
-list-few s w e =
-    let b = getD s 0 0 in
-    let three = sym (type-is b) ∙ ap typeOf e in
-    let same : header.List w ≡ header.List (listWidths b) = sym (is-list b three ∙ e) in
-    let is : w ≡ listWidths b = cc in
-    let some = ap (λ (x : Widths). x .offset) is in
-    omega (arith, mul-le-mul-right {m = 1} {n = w .offset} (count w s + 1) (omega arith))
+unfolding listWidths
+list-few s w e = let offsets = ap (λ (x : Widths). x .offset) (list-says (getD s 0 0) w e .1) in count-below w s (omega arith)
 
 module _ (d : List ℕ) where
   leaf-small : (n : ℕ) {s : List ℕ} {c p : ℕ} → leaf.Refusal s c p → Small n c p 0

@@ -1,5 +1,5 @@
 -- Where the numbers of a layout stand. Assumes nothing.
-use Rattle.rules.proofs.Prelude.{_≡_, refl, _∙_, List, ℕ, _+_, _-_, _*_, _≤_, arith, mul-le-mul-left, drop}
+use Rattle.rules.proofs.Prelude.{_≡_, refl, _∙_, List, ℕ, _+_, _-_, _*_, _≤_, _<_, arith, mul-le-mul-left, mul-le-mul-right, drop}
 use Rattle.width.specs.Width.{le}
 use Rattle.layout.specs.declared.Widths.{Widths}
 use Rattle.layout.specs.Layout.{count, offsetsStart, offset, start, end}
@@ -21,6 +21,11 @@ module _ (w : Widths) (s : List ℕ) where
   pub end-is : end w s ≡ start w s + offset w s (count w s)
   unfolding end
   end-is = refl
+
+  -- there are fewer children than bytes before the region
+  pub count-below : 1 ≤ w .offset → count w s < start w s
+  unfolding start
+  count-below some = omega (arith, mul-le-mul-right {m = 1} {n = w .offset} (count w s + 1) some)
 
   -- the header holds offset k
   pub offset-inside : (k : ℕ) → k ≤ count w s → offsetsStart w s + w .offset * k + w .offset ≤ start w s
