@@ -1,8 +1,8 @@
 -- A primitive of a fixed length whose bytes are there, and a short string of text, are good leaves. Assumes nothing.
-use Rattle.rules.proofs.Prelude.{_≡_, sym, ap, _∙_, refl, true, false, List, ℕ, _+_, _-_, _≤_, _<_, arith, length, getD, pass, false-true, add-zero}
+use Rattle.rules.proofs.Prelude.{_≡_, sym, ap, _∙_, refl, true, false, List, ℕ, _+_, _-_, _≤_, _<_, arith, length, getD, pass, false-true}
 use borrow.Author.Tests.{eqb-true}
 use Rattle.part.specs.Part.{part}
-use Rattle.part.proofs.Laws.{part-length, part-at, part-part}
+use Rattle.part.proofs.Laws.{part-length, part-first, part-part}
 use Rattle.width.specs.Limits.{u32Max}
 use Rattle.chars.specs.Rfc3629.{Text}
 use Rattle.encoding.specs.declared.Header.{Header}
@@ -22,7 +22,7 @@ module _ (w : List ℕ) (a e : ℕ) (inside : a < e) (there : e ≤ length w) wh
   size = part-length w a e (omega arith) there
 
   says : {h : Header} → HeaderPromise (getD w a 0) h → headOf (part w a e) ≡ h
-  says p = ap headerOf (rw (add-zero a) at (part-at w a e 0 (omega arith))) ∙ sym (p .says)
+  says p = ap headerOf (part-first w a e inside) ∙ sym (p .says)
 
   -- a type that holds no length is no string's
   no-string : (t : ℕ) → holdsLength t ≡ false → isString (header.Primitive t) ≡ true → ⊥

@@ -1,7 +1,7 @@
 -- A leaf that stands in a whole: where its text is, and what its check answers by the check of that. Assumes nothing.
-use Rattle.rules.proofs.Prelude.{_≡_, sym, _∙_, true, false, List, ℕ, _+_, _-_, _≤_, _<_, arith, length, getD, false-true, add-zero}
+use Rattle.rules.proofs.Prelude.{_≡_, sym, _∙_, true, false, List, ℕ, _+_, _-_, _≤_, _<_, arith, length, getD, false-true}
 use Rattle.part.specs.Part.{part}
-use Rattle.part.proofs.Laws.{part-length, part-at, part-part}
+use Rattle.part.proofs.Laws.{part-length, part-first, part-part}
 use Rattle.encoding.specs.declared.Header.{Header}
 use Rattle.encoding.specs.declared.Header.the-variants as header
 use Rattle.encoding.specs.declared.Length.the-variants.{Known}
@@ -40,7 +40,7 @@ module _ {w : List ℕ} {a e n : ℕ} {t : Span} (stands : Stands w a e n t) whe
   some = some-bytes (part w a e) n own
 
   first-byte : getD (part w a e) 0 0 ≡ getD w a 0
-  first-byte = rw (add-zero a) at (part-at w a e 0 (omega (arith, starts-inside)))
+  first-byte = part-first w a e starts-inside
 
   pub after-five : {k : ℕ} → header.Primitive k ≡ headerOf (getD w a 0) → 14 ≤ k → 5 ≤ n
   after-five {k} says from = five-bytes (part w a e) n own k (rw first-byte says) from

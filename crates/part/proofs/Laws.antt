@@ -2,7 +2,7 @@
 use mathlib.Core.Path.{_≡_, sym, _∙_}
 use mathlib.Core.List.{List, [], _∷_, _++_}
 use Prim.Native.Nat.{ℕ, zero, suc, _+_, _-_, _≤_, _<_}
-use native.Mathlib.Nat.{sub-zero, zero-sub, suc-sub-suc}
+use native.Mathlib.Nat.{add-zero, sub-zero, zero-sub, suc-sub-suc}
 use native.Mathlib.Omega.{arith}
 use lib.ListN.{length, take, drop, getD, length-drop}
 use lib.Seq.{drop-append-le, take-append-le, length-take-le, getD-take, getD-drop, take-take, take-nil, take-all, drop-drop}
@@ -19,6 +19,10 @@ part-append s u f t p q =
 -- an element of a part
 pub part-at : (s : List ℕ) (f t k : ℕ) → f + k < t → getD (part s f t) k 0 ≡ getD s (f + k) 0
 part-at s f t k p = getD-take (t - f) (drop f s) k 0 (omega arith) ∙ getD-drop f s k 0
+
+-- and its first one
+pub part-first : (s : List ℕ) (f t : ℕ) → f < t → getD (part s f t) 0 0 ≡ getD s f 0
+part-first s f t p = part-at s f t 0 (omega arith) ∙ rw add-zero
 
 drop-take : (n b : ℕ) (s : List ℕ) → drop b (take n s) ≡ take (n - b) (drop b s)
 drop-take n zero s = rw sub-zero

@@ -1,5 +1,6 @@
 -- The whole check and its answer, by where it is settled: the dictionary, the limit, the tree. Assumes nothing.
-use Rattle.rules.proofs.Prelude.{_≡_, refl, sym, ap, _∙_, List, [], _∷_, _++_, ℕ, _-_, _≤_, _<_, arith, length, accept, gives, pass, stop, _&_, first-at, first-pass, Found, List·getD-append}
+use Rattle.rules.proofs.Prelude.{_≡_, refl, sym, ap, _∙_, List, [], _∷_, _++_, ℕ, _-_, _≤_, _<_, arith, length, accept, gives, pass, stop, _&_}
+use Rattle.rules.proofs.Prelude.{first-at, first-pass, Found, List·getD-append}
 use native.Mathlib.Nat.{zero-add}
 use Rattle.part.specs.Part.{part}
 use Rattle.part.proofs.Laws.{part-whole}

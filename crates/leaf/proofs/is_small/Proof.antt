@@ -16,13 +16,17 @@ is-small-spec =
     (λ c κs. omega (arith, c .before .before .before .before .before .if1 .left, c .before .before .before .before .before .before .before .pre))  -- is-short-text-requires
     (λ c. search needs) (λ c. search needs)
     (λ c yes.
-    let x = c .before .before .before .before .before .before .before .before .before .args in
+    let some = c .before .before .before .before .before .before .before in
+    let s = some .before .before in
+    let x = s .args in
     let header = rw (c .before .before .before .header .given .1) at (c .before .before .before .before .before .header-of .ensures) in
     let fits = rw (c .before .fixed-length .ensures) at (c .fits2 .ensures yes) in
-    small-primitive (x .whole .now) (x .a) (x .e) (omega (arith, c .before .before .before .before .before .before .before .if1 .left)) (c .before .before .before .before .before .before .before .before .before .pre .1) _ header (fits .0) (fits .1))  -- returns-2
+    small-primitive (x .whole .now) (x .a) (x .e) (omega (arith, some .if1 .left)) (s .pre .1) _ header (fits .0) (fits .1))  -- returns-2
     (λ c yes.
-    let x = c .before .before .before .before .before .before .before .before .args in
+    let some = c .before .before .before .before .before .before in
+    let s = some .before .before in
+    let x = s .args in
     let header = rw (c .before .before .header2 .given .1) at (c .before .before .before .before .header-of .ensures) in
     let text = c .is-short-text .ensures yes in
-    small-string (x .whole .now) (x .a) (x .e) (omega (arith, c .before .before .before .before .before .before .if1 .left)) (c .before .before .before .before .before .before .before .before .pre .1) _ header (text .0) (text .1))  -- returns-3
+    small-string (x .whole .now) (x .a) (x .e) (omega (arith, some .if1 .left)) (s .pre .1) _ header (text .0) (text .1))  -- returns-3
     (λ c yes. false-true yes) (λ c yes. false-true yes))
