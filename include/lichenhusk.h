@@ -460,7 +460,7 @@ uint32_t lichenhusk_value(const uint8_t *value, size_t value_len,
  *      strings in two strings, in turn                  1.3 ms     70 s
  *      objects whose ids and offsets overlap            1.6 ms    130 s  *
  *      objects over two names that begin alike           13 ms    830 s  *
- * (x86-64, an AMD EPYC; * by the square from 1 MiB, not run.) One range of text
+ * (x86-64, an AMD EPYC, one run; * by the square from 1 MiB, not run.) One range of text
  * is remembered, so that two that are asked in turn are read again and again;
  * counts of what is text, four lent bytes for each byte, would cure it. Names are
  * compared by their bytes where the dictionary is not sorted; where it is, by
@@ -468,8 +468,9 @@ uint32_t lichenhusk_value(const uint8_t *value, size_t value_len,
  * not trust. For headers that overlap no cure is known but a smaller limit: all
  * three are milliseconds at 64 KiB, and up to some seconds at 1 MiB.
  * Without marks, the time for a value above LICHENHUSK_OWN_MARKS bytes may double
- * with each level. The stack that is taken is some 104 KiB on x86-64: 73 for the
- * function's own marks, whichever are used, and the rest for 32 levels of calls.
+ * with each level. The stack that is taken is some 104 KiB on x86-64, by the
+ * frames of the functions: 73 for the marks of its own, whichever are used, and
+ * the rest for 32 levels of calls.
  */
 uint32_t lichenhusk_tree(const uint8_t *dict, size_t dict_len,
                          const uint8_t *value, size_t value_len,
