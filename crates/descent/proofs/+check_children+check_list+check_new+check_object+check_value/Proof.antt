@@ -102,7 +102,9 @@ pub +check-children+check-list+check-new+check-object+check-value-spec : {M : Ty
     check-children-μ-loop
     (λ c. (omega arith, omega arith, (λ j q. absurd (omega arith)), c .before .before .before .pre .1 .2, refl))  -- loop-holds
     (λ c κs. let o = c .before .before .before .before .before .pre .1 .3 in (o .stands, omega (arith, o .stands .numbers .count-is)))  -- child-at-requires
-    (λ c κs. let child = c .child-at .ensures in (child .rises, omega (arith, child .inside, c .before .before .before .before .before .before .pre .1 .0 .inside)))  -- is-small-requires
+    (λ c κs. let child = c .child-at .ensures in
+    let p = c .before .before .before .before .before .before .pre .1 .0 in
+    (omega (arith, child .rises, p .rises), omega (arith, child .inside, p .inside)))  -- is-small-requires
     (λ c. omega (arith, c .before .before .before .loop-test .taken, c .before .before .before .before .before .before .before .before .good))  -- add-k
     (λ c. omega (arith, c .before .before .before .loop-test .taken))  -- loop-less
     (λ c. let s = c .before .before .before .before .before .before .before .before in

@@ -9,8 +9,8 @@ unfolding fixedLength payload
 fixed-length-spec =
     tie.close
     (tie.spec
-    (λ c. rw (lt-ltb _ _ (c .if1 .taken)))  -- returns
+    (λ c. rw (lt-ltb 20 (c .before .args .t) (omega arith)))  -- returns
     (λ c κs. search needs)  -- holds-length-requires
-    (λ c. rw (le-ltb _ _ (c .before .before .if1 .left), sym (c .before .holds-length .ensures), c .if2 .taken))  -- returns-2
+    (λ c. rw (le-ltb 20 (c .before .before .before .args .t) (omega arith), sym (c .before .holds-length .ensures), c .if2 .taken))  -- returns-2
     (λ c. omega arith) (λ c κs. search needs) (λ c. omega arith)
-    (λ c. rw (le-ltb _ _ (c .before .before .before .if1 .left), sym (c .before .before .holds-length .ensures), c .before .if2 .left, c .wide .ensures .0)))  -- returns-3
+    (λ c. rw (le-ltb 20 (c .before .before .before .before .args .t) (omega arith), sym (c .before .before .holds-length .ensures), c .before .if2 .left, c .wide .ensures .0)))  -- returns-3
