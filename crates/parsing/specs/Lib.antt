@@ -1,0 +1,4 @@
+pub mod Parsing
+pub mod Answers
+pub mod Promises
+pub mod ReadBack
