@@ -20,6 +20,7 @@ use lib.Dec.{eqb, ltb}
 use Rattle.steps.specs.Path.Step.{named, indexed}
 use Rattle.steps.specs.Path.Parsed.{refused, steps}
 use Rattle.writing.specs.Steps.{Room, stepsIn}
+use Rattle.writing.proofs.Laws.{names-length, words-length}
 use Rattle.parsing.specs.declared.Refusal.{Refusal}
 use Rattle.parsing.specs.declared.Reading.the-variants as reading
 use Rattle.parsing.specs.Answers.{refusalNumber}
@@ -45,25 +46,9 @@ unfolding leadingDot
 dot-some [] h = absurd (omega arith)
 dot-some (b ∷ s) h = refl
 
-pub names-length : (xs : List Step) → length (namesOf xs) ≡ total xs
-unfolding namesOf total weight
-names-length [] = refl
-names-length (x ∷ xs) = length-append (textOf x) (namesOf xs) ∙ ap (λ (n : ℕ). length (textOf x) + n) (names-length xs)
-
 neither : (t u : Bool) → (t || u) ≡ false → (t ≡ false) × (u ≡ false)
 neither true u e = let z : _≡_ {A = ℕ} 0 1 = cc in absurd (omega arith)
 neither false u e = (refl, e)
-
-rows-three : (from : ℕ) (x : Step) → length (rowOf from x) ≡ 3
-rows-three from (named t) = refl
-rows-three from (indexed n) = refl
-
-pub words-length : (from : ℕ) (xs : List Step) → length (wordsOf from xs) ≡ 3 * counted xs
-unfolding wordsOf counted
-words-length from [] = refl
-words-length from (x ∷ xs) =
-    let e = length-append (rowOf from x) (wordsOf (from + weight x) xs) in
-    omega (arith, e, rows-three from x, words-length (from + weight x) xs)
 
 -- the checks in their order
 not-text : (s : List ℕ) → (Text s → ⊥) → textUpTo s < length s

@@ -15,6 +15,7 @@ use Rattle.steps.specs.Path.Parsed.{refused, steps}
 use Rattle.brackets.specs.Steps.{ByteOf}
 use Rattle.writing.specs.Steps.{TakesOf, Due, WroteOf, Room, stepsIn}
 use Rattle.writing.specs.declared.Wrote.{Wrote}
+use Rattle.writing.proofs.Laws.{row-length}
 use Rattle.steps.proofs.Laws.{parse-end, parse-wrong, parse-step}
 
 take-more : (n : ℕ) (a : ℕ) (s : List ℕ) → 0 < n → take n (a ∷ s) ≡ a ∷ take (n - 1) s
@@ -129,10 +130,6 @@ module _ (s names₀ words₀ : List ℕ) (at used row : ℕ) (names words : Lis
 
   takes-inj : (x y : Step) (n m : ℕ) → takes x n ≡ takes y m → (x ≡ y) × (n ≡ m)
   takes-inj x y n m e = (cc, cc)
-
-  row-length : (from : ℕ) (x : Step) → length (rowOf from x) ≡ 3
-  row-length from (named t) = refl
-  row-length from (indexed n) = refl
 
   pub write-turn : (names′ words′ : List ℕ) (w : Wrote) → at < length s → WroteOf s at used row names words names′ words′ w
       → Written s names₀ words₀ (at + (w .more + 1)) (used + w .len) (row + 3) names′ words′
