@@ -95,7 +95,7 @@ pub fn field_place(object: &[u8], l: Layer, k: usize) -> Place
 }
 
 // Lookup by name over a dictionary that passed its checks.
-fn get_over(dict: &[u8], h: dictionary::Header, object: &[u8], name: &[u8]) -> Lookup
+pub fn get_over(dict: &[u8], h: dictionary::Header, object: &[u8], name: &[u8]) -> Lookup
     requires { ⌜ Over (now dict) h ⌝ }
     ensures { λ r. ⌜ GetPromise (now (dict .entry)) (now (object .entry)) (now (name .entry)) r ⌝ }
 {

@@ -1,7 +1,7 @@
 -- What is written is the steps: they stand in the two buffers row by row, and are read back exactly. Assumes nothing.
 use Rattle.rules.proofs.Prelude.{_≡_, refl, sym, ap, ap₂, _∙_, List, [], _∷_, _++_, append-assoc, ℕ, suc, _+_, _-_, _*_, arith, length, length-append, take, drop, getD}
-use Rattle.rules.proofs.Prelude.{getD-append-add, drop-drop}
-use lib.Seq.{take-append-seam, drop-append-seam, getD-append-seam, getD-drop}
+use Rattle.rules.proofs.Prelude.{getD-append-add}
+use lib.Seq.{take-append-seam, drop-append-seam, getD-append-seam}
 use Rattle.part.specs.Part.{part}
 use Rattle.steps.specs.Path.{Step}
 use Rattle.steps.specs.Path.Step.{named, indexed}
@@ -9,7 +9,7 @@ use Rattle.steps.specs.Path.Parsed.{steps}
 use Rattle.writing.specs.Written.{textOf, weight, rowOf, namesOf, wordsOf, counted, total}
 use Rattle.writing.proofs.Laws.{row-length}
 use Rattle.parsing.specs.Parsing.{answer, namesAfter, wordsAfter}
-use Rattle.parsing.specs.ReadBack.{stepBy, readBack, StandsAt, Laid}
+use Rattle.parsing.specs.ReadBack.{readBack, StandsAt, Laid}
 
 -- a name that stands after p
 part-of : (p t u : List ℕ) → part (p ++ (t ++ u)) (length p) (length p + length t) ≡ t
@@ -70,16 +70,14 @@ pub laid : (s names words : List ℕ) (xs : List Step) → answer s names words 
 laid s names words xs e = rw e (lay xs [] [] (drop (total xs) names) (drop (3 * counted xs) words))
 
 -- what is laid from `row` on is read back
-read-laid : (names words : List ℕ) (row : ℕ) (xs : List Step) → Laid names words row xs → readBack names (drop row words) (counted xs) ≡ xs
+pub read-laid : (names words : List ℕ) (row : ℕ) (xs : List Step) → Laid names words row xs → readBack names words row (counted xs) ≡ xs
 unfolding readBack counted
 read-laid names words row [] l = refl
 read-laid names words row (x ∷ xs) (h, l) =
     let n : 1 + counted xs ≡ suc (counted xs) = omega arith in
-    let first : row + 0 ≡ row = omega arith in
-    let head : x ≡ stepBy names (getD (drop row words) 0 0) (getD (drop row words) 1 0) (getD (drop row words) 2 0) = rw (getD-drop row words 0 0, getD-drop row words 1 0, getD-drop row words 2 0, first) (h .is) in
-    rw n (ap₂ _∷_ (sym head) (rw (drop-drop 3 row words) (read-laid names words (row + 3) xs l)))
+    rw n (ap₂ _∷_ (sym (h .is)) (read-laid names words (row + 3) xs l))
 
 -- AND ARE READ BACK exactly
 pub read-back : (s names words : List ℕ) (xs : List Step) → answer s names words ≡ steps xs
-    → readBack (namesAfter (answer s names words) names) (wordsAfter (answer s names words) words) (counted xs) ≡ xs
+    → readBack (namesAfter (answer s names words) names) (wordsAfter (answer s names words) words) 0 (counted xs) ≡ xs
 read-back s names words xs e = read-laid _ _ 0 xs (laid s names words xs e)

@@ -1,0 +1,4 @@
+pub mod Path
+pub mod Answers
+pub mod Promises
+pub mod Steps
