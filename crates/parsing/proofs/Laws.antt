@@ -28,7 +28,7 @@ use Rattle.parsing.specs.Promises.{ParsePromise}
 
 -- THE WHOLE
 
-is-bad : (p : Parsed) (code : ℕ) → bad code ≡ sizes p → p ≡ refused code
+pub is-bad : (p : Parsed) (code : ℕ) → bad code ≡ sizes p → p ≡ refused code
 is-bad (refused d) code e = let z : code ≡ d = cc in ap refused (sym z)
 is-bad (steps xs) code e = let z : _≡_ {A = ℕ} 0 1 = cc in absurd (omega arith)
 

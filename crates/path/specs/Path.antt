@@ -1,6 +1,6 @@
 -- Asking by path (document 02, i): the single lookups, one after another. d is the dictionary's bytes, v the whole value's. Assumes nothing.
 use mathlib.Core.List.{List, [], _∷_}
-use Prim.Native.Nat.{ℕ, zero, suc, _+_}
+use Prim.Native.Nat.{ℕ, suc, _+_}
 use lib.ListN.{length, getD}
 use Rattle.part.specs.Part.{part}
 use Rattle.rules.specs.Rules.{Answer, accept, refuse, _otherwise_}
@@ -16,11 +16,14 @@ use Rattle.strides.specs.Stride.{stride}
 abbrev pub whole : List ℕ → Spot
 whole v = record { field = 0; id = 0; start = 0; end = length v }
 
--- what a step found in the bytes that start at a, said from the whole's first byte; absence and a refusal are the answer as they stand
+-- what a step found in the bytes that start at a, said from the whole's first byte
+abbrev pub spotOf : (a : ℕ) (values : List ℕ) → Spot
+spotOf a values = record { field = getD values 0 0; id = getD values 1 0; start = a + getD values 2 0; end = a + getD values 3 0 }
+
+-- only what is found has values; absence and a refusal are the answer as they stand
 abbrev pub onward : (a : ℕ) → Answer → (Spot → Answer) → Answer
-onward a (gives zero values place) next =
-    next (record { field = getD values 0 0; id = getD values 1 0; start = a + getD values 2 0; end = a + getD values 3 0 })
-onward a (gives (suc code) values place) next = gives (suc code) values place
+onward a (gives code [] place) next = gives code [] place
+onward a (gives code (k ∷ values) place) next = next (spotOf a (k ∷ values))
 
 -- ONE STEP AFTER ANOTHER, from step `number` on; `at` is what the step before found, and its bytes, from start to end, are handed down
 unfoldable pub walk : (d v : List ℕ) (number : ℕ) → Spot → List Step → Answer
