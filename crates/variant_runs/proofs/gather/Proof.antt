@@ -1,11 +1,11 @@
--- `variant_files::gather` is safe and ends: each turn fills an end, and a store keeps the length. Assumes nothing.
+-- `variant_runs::gather` is safe and ends: each turn fills an end, and a store keeps the length. Assumes nothing.
 use mathlib.Core.Path.{_≡_}
 use Prim.Native.Nat.{_-_, _≤_}
 use borrow.Author.Needs.{needs}
 use lib.ListN.{length, length-set}
 use native.Mathlib.Omega.{arith}
-use Rattle.variant_files.proofs.gather.Statement.{statement}
-use Rattle.variant_files.proofs.gather.Tie as tie
+use Rattle.variant_runs.proofs.gather.Statement.{statement}
+use Rattle.variant_runs.proofs.gather.Tie as tie
 
 abbrev Inv-loop : tie.InvT-loop
 Inv-loop line from run₀ ends₀ next₀ len₀ count₀ run ends next len count =

@@ -1,9 +1,9 @@
--- `variant_files::run` is safe and ends: each turn takes a line. Assumes nothing.
+-- `variant_runs::run` is safe and ends: each turn takes a line. Assumes nothing.
 use Prim.Native.Nat.{_-_, _≤_}
 use borrow.Author.Needs.{needs}
 use lib.ListN.{length}
-use Rattle.variant_files.proofs.run.Statement.{statement}
-use Rattle.variant_files.proofs.run.Tie as tie
+use Rattle.variant_runs.proofs.run.Statement.{statement}
+use Rattle.variant_runs.proofs.run.Tie as tie
 
 abbrev Inv-loop : tie.InvT-loop
 Inv-loop text at₀ t4 t5 at = at ≤ length text

@@ -1,4 +1,5 @@
-// Runs the commands of stdin, a line each, on the files of data/: what `variant` does with these words as its arguments.
+// Runs `variant` on the files of data/: by the program's own arguments, then with the words of each line of `commands` as its arguments.
+// The last of these is `batch`, which answers the lines of stdin.
 ghost use Prim.Native.Nat.{_≤_};
 ghost use lib.ListN.{length};
 use libc::STDOUT_FILENO;
@@ -71,7 +72,7 @@ fn gather(line: &[u8], from: usize, run: &mut [u8], ends: &mut [u32]) -> Names
     Names { len, count }
 }
 
-// A line's words fit the run, which is as long as all of stdin may be; of ends there is room for one more than `find` takes.
+// A line's words fit the run, which is as long as all of `commands` may be; of ends there is room for one more than `find` takes.
 fn find_names(line: &[u8], from: usize, dict: &[u8], object: &[u8]) {
     let mut run = io::buffer();
     let mut ends = [0u32; 65];
@@ -114,8 +115,12 @@ fn run(text: &[u8]) {
     }
 }
 
+// Of the arguments the first three are a `find` of no name, the first four of one, and all of several.
 fn main() {
+    command::run_first(4);
+    command::run_first(5);
+    command::run();
     let mut text = io::buffer();
-    let n = io::read_full(libc::STDIN_FILENO, &mut text);
+    let n = io::read_full(os::open_read(b"commands"), &mut text);
     run(&text[..n]);
 }

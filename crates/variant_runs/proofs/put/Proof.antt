@@ -1,11 +1,11 @@
--- `variant_files::put` is safe: it keeps within the run, and a store keeps its length. Assumes nothing.
+-- `variant_runs::put` is safe: it keeps within the run, and a store keeps its length. Assumes nothing.
 use mathlib.Core.Path.{_≡_}
 use Prim.Native.Nat.{_-_, _≤_}
 use borrow.Author.Needs.{needs}
 use lib.ListN.{length, length-set}
 use native.Mathlib.Omega.{arith}
-use Rattle.variant_files.proofs.put.Statement.{statement}
-use Rattle.variant_files.proofs.put.Tie as tie
+use Rattle.variant_runs.proofs.put.Statement.{statement}
+use Rattle.variant_runs.proofs.put.Tie as tie
 
 abbrev Inv-loop : tie.InvT-loop
 Inv-loop run₀ at word to₀ i₀ i-end run to i = (length run ≡ length run₀) × (to ≤ length run) × (i-end ≤ length word)
