@@ -1,5 +1,4 @@
-// The command `variant`: what it does with its arguments. The programs over it are variant and, for tests, variant_batch, variant_find,
-// variant_find_all and variant_files.
+// The command `variant`: what it does with its arguments. The programs over it are variant and, for tests, variant_runs.
 ghost use Prim.Native.Nat.{_≤_};
 ghost use lib.ListN.{length};
 
@@ -239,9 +238,8 @@ fn argument(i: usize, out: &mut [u8]) -> Word
     Word { good: true, len }
 }
 
-// The command of the program's own arguments. The first three have room for the longest path.
-pub fn run() {
-    let count = os::arg_count();
+// The command of the first `count` of the program's arguments, its name among them. The first three words have room for the longest path.
+pub fn run_first(count: usize) {
     if count < 2 {
         show();
         return;
@@ -263,4 +261,9 @@ pub fn run() {
     } else {
         act(count, &verb_room[0..v], &one_room[0..a], &two_room[0..b]);
     }
+}
+
+// The command of the program's own arguments.
+pub fn run() {
+    run_first(os::arg_count());
 }

@@ -1,4 +1,0 @@
-// `variant batch` on the lines of stdin.
-fn main() {
-    command::run();
-}

@@ -1,4 +1,0 @@
-// `variant find` on files.
-fn main() {
-    command::run();
-}

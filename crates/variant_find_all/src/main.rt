@@ -1,4 +1,0 @@
-// `variant find` of several names on files.
-fn main() {
-    command::run();
-}
