@@ -7,7 +7,7 @@ use Rattle.layout.specs.Steps.{Few}
 use Rattle.encoding.specs.declared.Header.{Header}
 use Rattle.encoding.specs.declared.Header.the-variants as header
 use Rattle.encoding.specs.Encoding.{countWidth, objectWidths, listWidths, headerOf}
-use Rattle.encoding.specs.Promises.{Bounded}
+use Rattle.encoding.specs.Promises.{Bounded, HeaderPromise}
 
 -- by the basic type
 module _ (b : ℕ) where
@@ -43,6 +43,10 @@ type-is b = go (eqb (b % 4) 0) refl (eqb (b % 4) 1) refl (eqb (b % 4) 2) refl
     go false e false f true g = let z = eqb-true (b % 4) 2 g in rw (← is-object b z) (sym z)
     go false e false f false g =
         let z : b % 4 ≡ 3 = omega (arith, eqb-false (b % 4) 0 e, eqb-false (b % 4) 1 f, eqb-false (b % 4) 2 g) in rw (← is-list b z) (sym z)
+
+-- a byte that says another kind has another type
+pub other-type : (n b : ℕ) (r : Header) → HeaderPromise b r → (typeOf r ≡ n → ⊥) → b % 4 ≡ n → ⊥
+other-type n b r p h z = h (ap typeOf (p .says) ∙ type-is b ∙ z)
 
 pub object-says : (b : ℕ) (w : Widths) → headerOf b ≡ header.Object w → (b % 4 ≡ 2) × (w ≡ objectWidths b)
 object-says b w e =

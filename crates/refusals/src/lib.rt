@@ -1,7 +1,8 @@
-// The dictionary's and the layer's refusals as the six words of a strip.
+// The dictionary's, the object layer's and the list layer's refusals as the six words of a strip.
 ghost use mathlib.Core.Path.{_≡_};
 ghost use Rattle.dictionary.specs.Answers.{refusalNumber as dictionaryNumber, refusalPlace as dictionaryPlace};
 ghost use Rattle.layer.specs.Answers.{refusalNumber as objectNumber, refusalPlace as objectPlace};
+ghost use Rattle.list.specs.Answers.{refusalNumber as listNumber, refusalPlace as listPlace};
 ghost use Rattle.strip.specs.Shapes.{refusalWords};
 ghost use Rattle.strip.specs.Steps.{listOf};
 use strip::Words;
@@ -40,5 +41,16 @@ pub fn of_object_refusal(r: layer::Refusal) -> Words
         layer::Refusal::NotAbove(k) => refusal(26, k),
         layer::Refusal::Offset(k) => refusal(27, k),
         layer::Refusal::EmptyChild(k) => refusal(28, k),
+    }
+}
+
+// Refusals 60 to 62.
+pub fn of_list_refusal(r: list::Refusal) -> Words
+    ensures { λ w. ⌜ listOf w ≡ refusalWords (listNumber r) (listPlace r) ⌝ }
+{
+    match r {
+        list::Refusal::Short => refusal(60, 0),
+        list::Refusal::Sum => refusal(61, 0),
+        list::Refusal::Offset(k) => refusal(62, k),
     }
 }

@@ -1,28 +1,17 @@
 // The verdict on a tree as the six words of a strip.
 ghost use mathlib.Core.Path.{_≡_};
 ghost use mathlib.Core.List.{[], _∷_};
-ghost use Rattle.list.specs.Answers.{refusalNumber as listNumber, refusalPlace as listPlace};
 ghost use Rattle.leaf.specs.Answers.{refusalNumber as leafNumber};
 ghost use Rattle.nodes.specs.Answers.{refusalNumber, refusalPlace};
 ghost use Rattle.tree.specs.Answers.{verdictNumbers};
 ghost use Rattle.strip.specs.Shapes.{wordsOf, treeShape, refusalWords};
 ghost use Rattle.strip.specs.Steps.{listOf};
+use refusals::of_list_refusal;
 use refusals::of_object_refusal;
 use strip::Words;
 use strip::answer;
 use strip::from;
 use strip::refusal;
-
-// Refusals 60 to 62.
-fn of_list_refusal(r: list::Refusal) -> Words
-    ensures { λ w. ⌜ listOf w ≡ refusalWords (listNumber r) (listPlace r) ⌝ }
-{
-    match r {
-        list::Refusal::Short => refusal(60, 0),
-        list::Refusal::Sum => refusal(61, 0),
-        list::Refusal::Offset(k) => refusal(62, k),
-    }
-}
 
 // Refusals 50, 51 and 54.
 fn of_leaf_refusal(r: leaf::Refusal) -> Words

@@ -1,16 +1,10 @@
 -- `elements::get` meets its contract: length, type, and then the list. The limit is opened here. Assumes nothing.
-use Rattle.rules.proofs.Prelude.{_≡_, sym, ap, _∙_, ℕ, arith, needs, first-at, _&_}
+use Rattle.rules.proofs.Prelude.{sym, _∙_, arith, needs, first-at, _&_}
 use Rattle.dictionary.specs.Limits.{limit}
-use Prim.Native.Nat.{_%_}
-use Rattle.encoding.specs.declared.Header.{Header}
-use Rattle.encoding.specs.Promises.{HeaderPromise}
-use Rattle.encoding.proofs.Laws.{typeOf, type-is, list-says}
+use Rattle.encoding.proofs.Laws.{other-type, list-says}
 use Rattle.elements.proofs.Laws.{by-head}
 use Rattle.elements.proofs.get.Statement.{statement}
 use Rattle.elements.proofs.get.Tie as tie
-
-other-type : (n b : ℕ) (r : Header) → HeaderPromise b r → (typeOf r ≡ n → ⊥) → b % 4 ≡ n → ⊥
-other-type n b r p h z = h (ap typeOf (p .says) ∙ type-is b ∙ z)
 
 pub get-spec : {M : Type 1} → statement M
 unfolding limit

@@ -1,17 +1,10 @@
 -- `layer::read_header` meets its contract: length, type, and then the layout. The limit is opened here. Assumes nothing.
-use Rattle.rules.proofs.Prelude.{_≡_, _∙_, sym, ap, ℕ, arith, needs, first-at, _&_}
-use Prim.Native.Nat.{_%_}
+use Rattle.rules.proofs.Prelude.{_∙_, sym, arith, needs, first-at, _&_}
 use Rattle.dictionary.specs.Limits.{limit}
-use Rattle.encoding.specs.declared.Header.{Header}
-use Rattle.encoding.specs.Promises.{HeaderPromise}
-use Rattle.encoding.proofs.Laws.{typeOf, type-is, object-says}
+use Rattle.encoding.proofs.Laws.{other-type, object-says}
 use Rattle.layer.specs.Object.{basicType}
 use Rattle.layer.proofs.read_header.Statement.{statement}
 use Rattle.layer.proofs.read_header.Tie as tie
-
--- a byte that says anything but an object has another basic type
-not-two : (b : ℕ) (r : Header) → HeaderPromise b r → (typeOf r ≡ 2 → ⊥) → b % 4 ≡ 2 → ⊥
-not-two b r p n z = n (ap typeOf (p .says) ∙ type-is b ∙ z)
 
 pub read-header-spec : {M : Type 1} → statement M
 unfolding limit basicType
@@ -31,6 +24,6 @@ read-header-spec =
     })  -- read-layout-requires
     (λ c. search needs) (λ c. search needs) (λ c. search needs)
     (λ c. search needs)  -- returns-3
-    (λ c. let other = not-two _ _ (c .before .before .header-of .ensures) (rw (c .enum-told .given .1) (λ e. omega arith)) in first-at 2 _ (omega arith & omega arith & other))  -- returns-4
-    (λ c. let other = not-two _ _ (c .before .before .header-of .ensures) (rw (c .enum-told2 .given .1) (λ e. omega arith)) in first-at 2 _ (omega arith & omega arith & other))  -- returns-5
-    (λ c. let other = not-two _ _ (c .before .before .header-of .ensures) (rw (c .enum-told3 .given .1) (λ e. omega arith)) in first-at 2 _ (omega arith & omega arith & other)))  -- returns-6
+    (λ c. let other = other-type 2 _ _ (c .before .before .header-of .ensures) (rw (c .enum-told .given .1) (λ e. omega arith)) in first-at 2 _ (omega arith & omega arith & other))  -- returns-4
+    (λ c. let other = other-type 2 _ _ (c .before .before .header-of .ensures) (rw (c .enum-told2 .given .1) (λ e. omega arith)) in first-at 2 _ (omega arith & omega arith & other))  -- returns-5
+    (λ c. let other = other-type 2 _ _ (c .before .before .header-of .ensures) (rw (c .enum-told3 .given .1) (λ e. omega arith)) in first-at 2 _ (omega arith & omega arith & other)))  -- returns-6

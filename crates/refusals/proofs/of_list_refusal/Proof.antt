@@ -1,7 +1,7 @@
--- `reports::of_list_refusal` meets its contract: case by case. Assumes nothing.
+-- `refusals::of_list_refusal` meets its contract: case by case. Assumes nothing.
 use borrow.Author.Needs.{needs}
-use Rattle.reports.proofs.of_list_refusal.Statement.{statement}
-use Rattle.reports.proofs.of_list_refusal.Tie as tie
+use Rattle.refusals.proofs.of_list_refusal.Statement.{statement}
+use Rattle.refusals.proofs.of_list_refusal.Tie as tie
 
 pub of-list-refusal-spec : {M : Type 1} → statement M
 of-list-refusal-spec =
