@@ -8,7 +8,8 @@ use Rattle.dictionary.specs.Dictionary.{emptied, roomAfter}
 use Rattle.many.specs.Many.{rowsAfter}
 use Rattle.listing.specs.Words.{wordsAfter}
 use Rattle.marks.specs.Marks.{cleared}
-use Rattle.lichenhusk.specs.Strip.{lookupWords, allWords, layerWords, listWords, verdictWords, nameAtWords, valueWords, treeWords}
+use Rattle.parsing.specs.Parsing.{answer, namesAfter, wordsAfter as stepsAfter}
+use Rattle.lichenhusk.specs.Strip.{lookupWords, allWords, layerWords, listWords, verdictWords, nameAtWords, valueWords, treeWords, pathWords}
 use Rattle.lichenhusk.specs.Strip.{returned, stripAfter, filledAfter}
 
 -- of every call that fills a strip: the words of its answer
@@ -45,6 +46,12 @@ AllPromise d o names ends words strip = Filled strip (allWords d o names ends wo
 -- a tree: the marks that were lent are all 0 afterwards, under a refusal too
 abbrev pub TreePromise : (d v marks strip : List ℕ) → ℕ → List ℕ → List ℕ → Type 0
 TreePromise d v marks strip = Filled strip (treeWords d v) marks (cleared marks)
+
+-- a path: the names and the words of its steps, in two lent buffers
+pub record PathPromise (d v path names words strip : List ℕ) (code : ℕ) (after names′ words′ : List ℕ) : Type 0 where
+  pub strip-left : Left strip (pathWords d v path names words) code after
+  pub names-left : names′ ≡ filledAfter strip names (namesAfter (answer path names words) names)
+  pub words-left : words′ ≡ filledAfter strip words (stepsAfter (answer path names words) words)
 
 -- the empty dictionary, and its room after it
 pub record EmptyPromise (room : List ℕ) (code : ℕ) (after : List ℕ) : Type 0 where

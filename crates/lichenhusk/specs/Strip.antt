@@ -13,6 +13,7 @@ use Rattle.listing.specs.Words as listing
 use Rattle.value.specs.Reading.{reading}
 use Rattle.value.specs.Answers.{valueNumbers}
 use Rattle.nodes.specs.Tree as tree
+use Rattle.path.specs.Path.{byPath}
 use Rattle.strip.specs.Shapes.{wordsOf, lookupShape, layerShape, dictionaryShape, nameShape, valueShape, treeShape, bytesOfWords, stripBytes}
 
 -- THE WORDS OF EACH CALL
@@ -40,6 +41,9 @@ valueWords s = wordsOf valueShape (valueNumbers (reading s))
 
 abbrev pub treeWords : List ℕ → List ℕ → List ℕ
 treeWords d v = wordsOf treeShape (tree.verdict d v)
+
+abbrev pub pathWords : (d v path names words : List ℕ) → List ℕ
+pathWords d v path names words = wordsOf lookupShape (byPath d v path names words)
 
 -- THE STRIP: 40, below 24 bytes, is checked first
 

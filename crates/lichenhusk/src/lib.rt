@@ -1,5 +1,5 @@
 // What a host calls through C: each answer as a strip of six little-endian u32 (include/lichenhusk.h).
-ghost use Rattle.lichenhusk.specs.Promises.{LookupPromise, AllPromise, DictionaryPromise, NamePromise, LayerPromise, ListPromise, ValuePromise, TreePromise, EmptyPromise};
+ghost use Rattle.lichenhusk.specs.Promises.{LookupPromise, AllPromise, DictionaryPromise, NamePromise, LayerPromise, ListPromise, ValuePromise, TreePromise, PathPromise, EmptyPromise};
 
 // The bytes of a strip, below which the answer is 40.
 pub const STRIP: usize = 24;
@@ -120,6 +120,25 @@ pub extern "C" fn lichenhusk_tree(
     }
     let words = reports::of_tree(tree::check_with(dict, value, marks));
     strip::write(strip, words)
+}
+
+// By path: field or index, id, start and end of what stands there; names and words have the path's steps.
+#[no_mangle]
+pub extern "C" fn lichenhusk_path(
+    dict: &[u8],
+    value: &[u8],
+    path: &[u8],
+    names: &mut [u8],
+    words: &mut [u32],
+    strip: &mut [u8],
+) -> u32
+    ensures { λ r. ⌜ PathPromise (now (dict .entry)) (now (value .entry)) (now (path .entry)) (now (names .entry)) (now (words .entry)) (now (strip .entry)) r (now (strip .exit)) (now (names .exit)) (now (words .exit)) ⌝ }
+{
+    if strip.len() < STRIP {
+        return 40;
+    }
+    let six = arrivals::of_asked(path::get(dict, value, path, names, words));
+    strip::write(strip, six)
 }
 
 // The empty dictionary: 0, or 42 below three bytes of room.
