@@ -1,4 +1,2 @@
 pub mod Encoding
-pub mod Meaning
 pub mod Promises
-pub mod Steps

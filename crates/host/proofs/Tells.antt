@@ -12,8 +12,8 @@ use Rattle.metadata.proofs.Names as dictionary-names
 use Rattle.metadata.proofs.Fits as dictionary-fits
 use Rattle.metadata.proofs.Says.{too-small, enough}
 use Rattle.part.specs.Part.{part}
-use Rattle.encoding.specs.declared.Length.the-variants.{Known}
-use Rattle.encoding.specs.Encoding.{ownLength}
+use Rattle.lengths.specs.declared.Length.the-variants.{Known}
+use Rattle.lengths.specs.Lengths.{ownLength}
 use Rattle.layer.specs.Object as object
 use Rattle.object.proofs.Means.{checks-mean}
 use Rattle.object.proofs.Refuses.{is-due}

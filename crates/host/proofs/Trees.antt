@@ -11,10 +11,11 @@ use Rattle.layout.specs.declared.Widths.{Widths}
 use Rattle.layout.specs.Layout.{count, childStart, start, end}
 use Rattle.layout.proofs.Laws.{end-is, count-below}
 use Rattle.encoding.specs.declared.Header.the-variants as header
-use Rattle.encoding.specs.declared.Length.the-variants.{Known}
-use Rattle.encoding.specs.Encoding.{listWidths, ownLength, bytesOf}
+use Rattle.lengths.specs.declared.Length.the-variants.{Known}
+use Rattle.encoding.specs.Encoding.{listWidths}
+use Rattle.lengths.specs.Lengths.{ownLength, bytesOf}
 use Rattle.encoding.proofs.Laws.{list-says}
-use Rattle.encoding.proofs.Means.{known}
+use Rattle.lengths.proofs.Means.{known}
 use Rattle.layer.specs.Object.{id, fieldName}
 use Rattle.layer.specs.Meaning as object
 use Rattle.layer.proofs.Laws as object-laws

@@ -9,9 +9,9 @@ use Rattle.part.specs.Part.{part}
 use Rattle.number.specs.Signed.{signed, extended}
 use Rattle.number.proofs.Means.{extended-small}
 use Rattle.encoding.specs.declared.Header.{Header}
-use Rattle.encoding.specs.declared.Length.the-variants.{Known}
-use Rattle.encoding.specs.Encoding.{isKnown, ownLength}
-use Rattle.encoding.proofs.Appended.{whatever-follows}
+use Rattle.lengths.specs.declared.Length.the-variants.{Known}
+use Rattle.lengths.specs.Lengths.{isKnown, ownLength}
+use Rattle.lengths.proofs.Appended.{whatever-follows}
 use Rattle.value.specs.declared.Value.{Value}
 use Rattle.value.specs.Reading.{payloadStart, single, double, reading}
 use Rattle.value.specs.Answers.{inTwo, valueNumbers}

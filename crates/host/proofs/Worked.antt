@@ -16,6 +16,7 @@ use Rattle.nodes.specs.Tree as tree
 use Rattle.nodes.specs.Tree.{_andThen_}
 use Rattle.layout.specs.Layout as layout
 use Rattle.encoding.specs.Encoding as encoding
+use Rattle.lengths.specs.Lengths as lengths
 use lib.Ieee.{ofBits, toBits, nanBits, size}
 use Rattle.number.specs.Signed.{signed, extended}
 use Rattle.value.specs.Reading as value
@@ -36,7 +37,7 @@ unfolding le bytesOf upTo leadOf tailsOf char textUpTo begins isCut compareOf be
     object.offset object.start object.end object.fieldName object.nameRules object.offsetRules object.checksWithin object.verdictWithin
     by-name.lookupWithin run.begin run.name run.endRules run.checks many.rowWithin many.manyChecksWithin many.lookupsWithin many.rowsAfterWithin
     layout.count layout.offsetsStart layout.offset layout.start layout.end encoding.countWidth encoding.objectWidths encoding.listWidths encoding.headerOf
-    encoding.payload encoding.holdsLength encoding.held encoding.bytesBy encoding.lengthRules encoding.caseOf encoding.lengthBy encoding.ownLength
+    lengths.payload lengths.holdsLength lengths.held lengths.bytesBy lengths.lengthRules lengths.caseOf lengths.lengthBy lengths.ownLength
     signed extended ofBits toBits nanBits size value.single value.double value.payloadStart value.primitive value.readBy value.measured value.reading
     list.elementRules list.checks leaf.lengthFound leaf.isString leaf.textStart leaf.text leaf.textRules leaf.leaf _andThen_ tree.here tree.from tree.inOrder
     tree.child tree.children tree.layered tree.objectBy tree.listBy tree.valueBy tree.tree tree.levels tree.checksAt tree.verdictAt

@@ -22,8 +22,8 @@ use Rattle.listing.specs.Meaning.{Listed, NoLength, NoRoom}
 use Rattle.number.specs.Signed.{signed, extended}
 use Rattle.layout.specs.declared.Widths.{Widths}
 use Rattle.encoding.specs.declared.Header.the-variants as header
-use Rattle.encoding.specs.declared.Length.the-variants.{Known}
-use Rattle.encoding.specs.Encoding.{ownLength}
+use Rattle.lengths.specs.declared.Length.the-variants.{Known}
+use Rattle.lengths.specs.Lengths.{ownLength}
 use Rattle.value.specs.declared.Value.the-variants.{Short, Unknown}
 use Rattle.value.specs.Reading.{payloadStart}
 use Rattle.value.specs.Meaning.{Begins, OfType, Placed, Reads}

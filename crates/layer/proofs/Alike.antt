@@ -6,13 +6,14 @@ use Rattle.rules.proofs.Laws.{first-append}
 use Rattle.dictionary.specs.Limits.{limit}
 use Rattle.layout.specs.declared.Widths.{Widths}
 use Rattle.layout.specs.Layout as layout
-use Rattle.encoding.specs.declared.Length.the-variants.{Known}
+use Rattle.lengths.specs.declared.Length.the-variants.{Known}
 use Rattle.encoding.specs.declared.Header.the-variants as header
-use Rattle.encoding.specs.Encoding.{countWidth as widthOf, objectWidths, bytesBy, ownLength}
-use Rattle.encoding.specs.Meaning.{Counted, Encoded}
-use Rattle.encoding.specs.Meaning.Due.{measured}
+use Rattle.encoding.specs.Encoding.{countWidth as widthOf, objectWidths}
+use Rattle.lengths.specs.Lengths.{bytesBy, ownLength}
+use Rattle.lengths.specs.Meaning.{Counted, Encoded}
+use Rattle.lengths.specs.Meaning.Due.{measured}
 use Rattle.encoding.proofs.Laws.{is-object}
-use Rattle.encoding.proofs.Means.{exactly-when}
+use Rattle.lengths.proofs.Means.{exactly-when}
 use Rattle.layer.specs.Object.{basicType, offsetWidth, idWidth, countWidth, count, idsStart, id, offsetsStart, offset, start, end, headRules}
 use Rattle.layer.specs.Meaning.{Layer}
 

@@ -2,10 +2,11 @@
 use Rattle.rules.proofs.Prelude.{_≡_, List, ℕ, zero, suc, _+_, _-_, _≤_, _<_, arith, drop, getD, first, stop, stops, goes}
 use lib.Seq.{getD-drop}
 use Rattle.encoding.specs.declared.Header.the-variants as header
-use Rattle.encoding.specs.declared.Length.{Length}
-use Rattle.encoding.specs.declared.Length.the-variants.{Known}
-use Rattle.encoding.specs.Encoding.{headerOf, payloads, payload, bytesBy, ownLength}
-use Rattle.encoding.proofs.Means.{known}
+use Rattle.lengths.specs.declared.Length.{Length}
+use Rattle.lengths.specs.declared.Length.the-variants.{Known}
+use Rattle.encoding.specs.Encoding.{headerOf}
+use Rattle.lengths.specs.Lengths.{payloads, payload, bytesBy, ownLength}
+use Rattle.lengths.proofs.Means.{known}
 use Rattle.leaf.specs.Leaf.{lengthFound, textRules, leaf}
 
 -- a primitive from type 14 on has a payload of four bytes at least

@@ -5,12 +5,13 @@ use Rattle.rules.proofs.Prelude.{drop, take-append-drop, getD, pass}
 use Rattle.part.specs.Part.{part}
 use Rattle.part.proofs.Laws.{part-append}
 use Rattle.encoding.specs.declared.Header.{Header}
-use Rattle.encoding.specs.declared.Length.{Length}
-use Rattle.encoding.specs.declared.Length.the-variants.{Known, Cut, Sum, Unknown, Longer}
-use Rattle.encoding.specs.Encoding.{headerOf, ownLength, isKnown, bytesOf}
-use Rattle.encoding.proofs.Means.{known, is-known}
-use Rattle.encoding.proofs.Appended as encoding
-use Rattle.encoding.proofs.Appended.{Settled, own-bytes, at-hand}
+use Rattle.lengths.specs.declared.Length.{Length}
+use Rattle.lengths.specs.declared.Length.the-variants.{Known, Cut, Sum, Unknown, Longer}
+use Rattle.encoding.specs.Encoding.{headerOf}
+use Rattle.lengths.specs.Lengths.{ownLength, isKnown, bytesOf}
+use Rattle.lengths.proofs.Means.{known, is-known}
+use Rattle.lengths.proofs.Appended as lengths
+use Rattle.lengths.proofs.Appended.{Settled, own-bytes, at-hand}
 use Rattle.leaf.specs.Leaf.{lengthFound, textStart, text, textRules, leaf}
 use Rattle.leaf.proofs.Laws.{length-stops, leaf-by-text}
 use Rattle.leaf.proofs.Means.{good}
@@ -45,7 +46,7 @@ module _ (s u : List ℕ) where
 
   -- they lift a cut header and "longer than the bytes", and nothing else
   pub appended : Settled (ownLength s) → leaf (s ++ u) ≡ leaf s
-  appended settled = by-length (ownLength s) refl (encoding.appended s u settled) settled
+  appended settled = by-length (ownLength s) refl (lengths.appended s u settled) settled
 
   pub local : isKnown (ownLength s) ≡ true → leaf (s ++ u) ≡ leaf s
   local e = appended (rw (is-known s e) tt)

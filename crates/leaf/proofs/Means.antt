@@ -4,9 +4,10 @@ use Rattle.rules.proofs.Prelude.{_≡_, refl, _∙_, _↔_, List, ℕ, _<_, ari
 use Rattle.rules.proofs.Prelude.{_&_, Meant, by-rows, meant-pass, meant-stop, first-at, first-pass, surely, _<?_}
 use Rattle.rules.proofs.Laws.Meant.{one-stops}
 use Rattle.chars.proofs.Laws.{text-whole, text-all}
-use Rattle.encoding.specs.declared.Length.{Length}
-use Rattle.encoding.specs.declared.Length.the-variants.{Known, Cut, Sum, Unknown, Longer}
-use Rattle.encoding.specs.Encoding.{headerOf, ownLength}
+use Rattle.lengths.specs.declared.Length.{Length}
+use Rattle.lengths.specs.declared.Length.the-variants.{Known, Cut, Sum, Unknown, Longer}
+use Rattle.encoding.specs.Encoding.{headerOf}
+use Rattle.lengths.specs.Lengths.{ownLength}
 use Rattle.chars.specs.Rfc3629.{Text, textUpTo}
 use Rattle.leaf.specs.Leaf.{lengthFound, text, textRules, leaf}
 use Rattle.leaf.specs.Meaning.{GoodLeaf, Refusal}

@@ -7,13 +7,14 @@ use Rattle.width.specs.Limits.{u32Max}
 use Rattle.chars.specs.Rfc3629.{Text}
 use Rattle.encoding.specs.declared.Header.{Header}
 use Rattle.encoding.specs.declared.Header.the-variants as header
-use Rattle.encoding.specs.declared.Length.the-variants.{Known}
-use Rattle.encoding.specs.Encoding.{headerOf, holdsLength, fixedLength, bytesBy, ownLength}
-use Rattle.encoding.specs.Meaning.{Encoded}
-use Rattle.encoding.specs.Meaning.Due.{measured}
+use Rattle.lengths.specs.declared.Length.the-variants.{Known}
+use Rattle.encoding.specs.Encoding.{headerOf}
+use Rattle.lengths.specs.Lengths.{holdsLength, fixedLength, bytesBy, ownLength}
+use Rattle.lengths.specs.Meaning.{Encoded}
+use Rattle.lengths.specs.Meaning.Due.{measured}
 use Rattle.encoding.specs.Promises.{HeaderPromise}
-use Rattle.encoding.proofs.Means.{exactly-when}
-use Rattle.encoding.proofs.Fixed.{fixed, fixed-known}
+use Rattle.lengths.proofs.Means.{exactly-when}
+use Rattle.lengths.proofs.Fixed.{fixed, fixed-known}
 use Rattle.leaf.specs.Leaf.{headOf, IsLeaf, isString, textStart, text, leaf}
 use Rattle.leaf.proofs.Means.{all-pass}
 

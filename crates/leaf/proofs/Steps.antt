@@ -4,10 +4,11 @@ use Rattle.part.specs.Part.{part}
 use Rattle.part.proofs.Laws.{part-length, part-first, part-part}
 use Rattle.encoding.specs.declared.Header.{Header}
 use Rattle.encoding.specs.declared.Header.the-variants as header
-use Rattle.encoding.specs.declared.Length.the-variants.{Known}
-use Rattle.encoding.specs.Encoding.{headerOf, ownLength}
-use Rattle.encoding.proofs.Means.{known}
-use Rattle.encoding.proofs.Appended.{some-bytes, at-hand}
+use Rattle.lengths.specs.declared.Length.the-variants.{Known}
+use Rattle.encoding.specs.Encoding.{headerOf}
+use Rattle.lengths.specs.Lengths.{ownLength}
+use Rattle.lengths.proofs.Means.{known}
+use Rattle.lengths.proofs.Appended.{some-bytes, at-hand}
 use Rattle.texts.specs.declared.Span.{Span}
 use Rattle.texts.specs.Known.{KnownOf}
 use Rattle.leaf.specs.declared.Leaf.{Leaf}

@@ -6,8 +6,9 @@ use mathlib.Core.List.{List}
 use Prim.Native.Nat.{ℕ}
 use lib.ListN.{getD}
 use Rattle.chars.specs.Rfc3629.{Text}
-use Rattle.encoding.specs.declared.Length.the-variants.{Known, Cut, Sum, Unknown, Longer}
-use Rattle.encoding.specs.Encoding.{headerOf, ownLength}
+use Rattle.lengths.specs.declared.Length.the-variants.{Known, Cut, Sum, Unknown, Longer}
+use Rattle.encoding.specs.Encoding.{headerOf}
+use Rattle.lengths.specs.Lengths.{ownLength}
 use Rattle.leaf.specs.Leaf.{isString, text}
 
 -- it has an own length, and a string's text is UTF-8

@@ -5,12 +5,12 @@ ghost use Prim.Native.Nat.{_+_, _≤_, _<_};
 ghost use lib.ListN.{length};
 ghost use Rattle.part.specs.Part.{part};
 ghost use Rattle.chars.specs.Rfc3629.{Text};
-ghost use Rattle.encoding.specs.declared.Length.the-variants.{Known};
-ghost use Rattle.encoding.specs.Encoding.{ownLength};
+ghost use Rattle.lengths.specs.declared.Length.the-variants.{Known};
+ghost use Rattle.lengths.specs.Lengths.{ownLength};
 ghost use Rattle.texts.specs.Known.{KnownOf};
 ghost use Rattle.leaf.specs.Steps.{TextOf, LeafOf, SmallOf};
 use encoding::Header;
-use encoding::Length;
+use lengths::Length;
 use texts::Judged;
 use texts::Span;
 
@@ -59,7 +59,7 @@ pub fn is_small(whole: &[u8], a: usize, e: usize) -> bool
     }
     let header = encoding::header_of(whole[a]);
     match header {
-        Header::Primitive(t) => fits(encoding::fixed_length(t), e - a),
+        Header::Primitive(t) => fits(lengths::fixed_length(t), e - a),
         Header::ShortString(n) => is_short_text(whole, a, e, n),
         Header::Object(_) => false,
         Header::List(_) => false,
@@ -102,7 +102,7 @@ pub fn check(whole: &[u8], a: usize, e: usize, known: Span) -> Leaf
     requires { ⌜ (a ≤ e) × (e ≤ length (now whole)) × KnownOf (now whole) known ⌝ }
     ensures { λ r. ⌜ LeafOf (now (whole .entry)) a e r ⌝ }
 {
-    let length = encoding::own_length(&whole[a..e]);
+    let length = lengths::own_length(&whole[a..e]);
     match length {
         Length::Known(n) => check_measured(whole, a, e, n, known),
         Length::Cut => Leaf::Refused(Refusal::Short),

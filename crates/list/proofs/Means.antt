@@ -4,7 +4,7 @@ use Rattle.rules.proofs.Prelude.{_≡_, _∙_, _↔_, List, ℕ, _<_, arith, fi
 use Rattle.rules.proofs.Prelude.{Meant, by-rows, by-each, meant-then, meant-map, meant-pass, meant-stop}
 use Rattle.layout.specs.declared.Widths.{Widths}
 use Rattle.layout.specs.Layout.{count, rules}
-use Rattle.encoding.specs.Meaning.{Counted}
+use Rattle.lengths.specs.Meaning.{Counted}
 use Rattle.list.specs.List.{elementRules, checks}
 use Rattle.list.specs.Meaning.{Headed, InOrder, ListLayer, Refusal}
 use Rattle.list.specs.Meaning.Refusal.{count-cut, offsets-sum, start-sum, offsets-cut, end-sum, end-past, not-rising, past-region}

@@ -6,7 +6,7 @@ use lib.ListN.{length}
 use Rattle.width.specs.Limits.{u32Max}
 use Rattle.layout.specs.declared.Widths.{Widths}
 use Rattle.layout.specs.Layout.{count, offsetsStart, offset, start, end}
-use Rattle.encoding.specs.Meaning.{Counted}
+use Rattle.lengths.specs.Meaning.{Counted}
 
 -- WHAT THE CHECKS ASK, EACH WITH THOSE BEFORE IT: the count and the offsets are there (`Counted`); then the region
 pub record Headed (w : Widths) (s : List ℕ) : Type 0 where

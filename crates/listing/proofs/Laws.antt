@@ -2,7 +2,7 @@
 use Rattle.rules.proofs.Prelude.{_≡_, List, ℕ, _+_, _-_, _≤_, arith, length}
 use Rattle.part.specs.Part.{part}
 use Rattle.part.proofs.Laws.{part-length}
-use Rattle.encoding.proofs.Means.{bytes-at-hand}
+use Rattle.lengths.proofs.Means.{bytes-at-hand}
 use Rattle.layer.specs.Object.{offset, start, end}
 use Rattle.layer.specs.Meaning.{InRegion}
 use Rattle.layer.proofs.Laws.{end-is}

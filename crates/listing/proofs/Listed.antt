@@ -2,10 +2,10 @@
 -- The span is the child's own length. Assumes nothing.
 use Rattle.rules.proofs.Prelude.{_≡_, List, ℕ, _+_, _*_, _≤_, _<_, add-zero, arith, getD}
 use Rattle.rules.proofs.Rows.{row-word}
-use Rattle.encoding.specs.declared.Length.the-variants.{Known}
-use Rattle.encoding.specs.Encoding.{ownLength}
-use Rattle.encoding.proofs.Means.{exactly-when}
-use Rattle.encoding.proofs.Appended.{some-bytes}
+use Rattle.lengths.specs.declared.Length.the-variants.{Known}
+use Rattle.lengths.specs.Lengths.{ownLength}
+use Rattle.lengths.proofs.Means.{exactly-when}
+use Rattle.lengths.proofs.Appended.{some-bytes}
 use Rattle.layer.specs.Object.{count, id, offset, start, end}
 use Rattle.listing.specs.Words.{child, span, row, rows}
 use Rattle.listing.specs.Meaning.{Listed}

@@ -1,10 +1,10 @@
 -- What the listing's checks come to, row by row, in the words of specs/Meaning.antt. Assumes nothing.
 use Rattle.rules.proofs.Prelude.{_≡_, refl, sym, ap, _∙_, Bool, true, false, List, [], _∷_, ℕ, _*_, _<_, length, Passed, _<?_, _⇒_at_}
 use Rattle.rules.proofs.Prelude.{_&_, false-true, Meant, by-rows, by-each, meant-then, meant-map}
-use Rattle.encoding.specs.declared.Length.the-variants.{Known}
-use Rattle.encoding.specs.Encoding.{ownLength, isKnown}
-use Rattle.encoding.specs.Meaning.{Due}
-use Rattle.encoding.proofs.Means.{exactly-when, is-known}
+use Rattle.lengths.specs.declared.Length.the-variants.{Known}
+use Rattle.lengths.specs.Lengths.{ownLength, isKnown}
+use Rattle.lengths.specs.Meaning.{Due}
+use Rattle.lengths.proofs.Means.{exactly-when, is-known}
 use Rattle.layer.specs.Object.{count, start, end}
 use Rattle.layer.specs.Meaning.{Refusal}
 use Rattle.object.proofs.Means.{checks-mean}

@@ -3,8 +3,8 @@
 use mathlib.Core.List.{List}
 use Prim.Native.Nat.{ℕ, _*_, _≤_, _<_}
 use lib.ListN.{length}
-use Rattle.encoding.specs.declared.Length.the-variants.{Known}
-use Rattle.encoding.specs.Meaning.{Due}
+use Rattle.lengths.specs.declared.Length.the-variants.{Known}
+use Rattle.lengths.specs.Meaning.{Due}
 use Rattle.layer.specs.Object.{count, start, end}
 use Rattle.layer.specs.Meaning.{Layer}
 use Rattle.listing.specs.Words.{child, span}

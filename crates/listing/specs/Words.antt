@@ -7,7 +7,7 @@ use Rattle.rules.specs.Rules.{Answer, Rule, Found, first, each, _orElse_, _othe
 use Rattle.rules.specs.Rules.Rule.{_⇒_at_}
 use Rattle.rules.specs.Rules.Test.{_<?_, isn't}
 use Rattle.dictionary.specs.Limits.{limit}
-use Rattle.encoding.specs.Encoding.{ownLength, isKnown, bytesOf}
+use Rattle.lengths.specs.Lengths.{ownLength, isKnown, bytesOf}
 use Rattle.layer.specs.Object.{count, id, offset, start, end, checksWithin, layer}
 
 -- Field k's child runs from the region's start plus its offset to the trimmed end

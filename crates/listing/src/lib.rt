@@ -5,7 +5,7 @@ ghost use mathlib.Core.List.{_++_};
 ghost use Prim.Native.Nat.{ℕ, _*_, _≤_, _<_};
 ghost use lib.ListN.{length, drop};
 ghost use Rattle.rules.specs.Rules.{first, each};
-ghost use Rattle.encoding.specs.Encoding.{ownLength};
+ghost use Rattle.lengths.specs.Lengths.{ownLength};
 ghost use Rattle.layer.specs.Object.{count as countOf};
 ghost use Rattle.layer.specs.Meaning.{InRegion};
 ghost use Rattle.layer.specs.Steps.{LayerOf};
@@ -28,13 +28,13 @@ pub enum Listing {
 }
 
 // The own length of field k's child.
-fn own_length(object: &[u8], l: Layer, k: usize) -> encoding::Length
+fn own_length(object: &[u8], l: Layer, k: usize) -> lengths::Length
     requires { ⌜ LayerOf (now object) l × (k < countOf (now object)) × InRegion (now object) k ⌝ }
     ensures { λ r. ⌜ r ≡ ownLength (childOf (now (object .entry)) k) ⌝ }
 {
     let start = l.start + layer::offset_at(object, l, k);
     let end = l.end;
-    encoding::own_length(&object[start..end])
+    lengths::own_length(&object[start..end])
 }
 
 // What the measuring of all children comes to.
@@ -51,7 +51,7 @@ fn measure(object: &[u8], l: Layer) -> Measured
     let count = l.count;
     let mut k = 0;
     while k < count {
-        let known = encoding::is_known(own_length(object, l, k));
+        let known = lengths::is_known(own_length(object, l, k));
         if !known {
             return Measured::NoLength(k);
         }
@@ -103,7 +103,7 @@ fn write_rows(object: &[u8], l: Layer, words: &mut [u32])
     let mut k = 0;
     while k < fields {
         let offset = layer::offset_at(object, l, k);
-        let span = encoding::bytes_of(own_length(object, l, k));
+        let span = lengths::bytes_of(own_length(object, l, k));
         words[at] = layer::id_at(object, l, k) as u32;
         words[at + 1] = (l.start + offset) as u32;
         words[at + 2] = span as u32;

@@ -5,12 +5,13 @@ use Rattle.layout.specs.Layout as layout
 use Rattle.layout.specs.Layout.{count, childStart, end}
 use Rattle.layout.proofs.Laws.{end-is}
 use Rattle.encoding.specs.declared.Header.the-variants as header
-use Rattle.encoding.specs.declared.Length.the-variants.{Known}
-use Rattle.encoding.specs.Encoding.{objectWidths, ownLength, bytesBy}
-use Rattle.encoding.specs.Meaning.{Counted, Encoded}
+use Rattle.lengths.specs.declared.Length.the-variants.{Known}
+use Rattle.encoding.specs.Encoding.{objectWidths}
+use Rattle.lengths.specs.Lengths.{ownLength, bytesBy}
+use Rattle.lengths.specs.Meaning.{Counted, Encoded}
 use Rattle.encoding.proofs.Laws.{object-says}
-use Rattle.encoding.specs.Meaning.Due.{measured}
-use Rattle.encoding.proofs.Means.{known, exactly-when}
+use Rattle.lengths.specs.Meaning.Due.{measured}
+use Rattle.lengths.proofs.Means.{known, exactly-when}
 use Rattle.dictionary.specs.Limits.{limit}
 use Rattle.layer.specs.Object as object
 use Rattle.layer.specs.Object.{basicType, headRules}

@@ -13,9 +13,10 @@ use Rattle.layout.specs.Layout as layout
 use Rattle.layout.specs.Layout.{count, childStart, end}
 use Rattle.layout.proofs.Appended as layout-appended
 use Rattle.encoding.specs.declared.Header.the-variants as header
-use Rattle.encoding.specs.declared.Length.the-variants.{Known}
-use Rattle.encoding.specs.Encoding.{headerOf, ownLength}
-use Rattle.encoding.proofs.Means.{known}
+use Rattle.lengths.specs.declared.Length.the-variants.{Known}
+use Rattle.encoding.specs.Encoding.{headerOf}
+use Rattle.lengths.specs.Lengths.{ownLength}
+use Rattle.lengths.proofs.Means.{known}
 use Rattle.layer.specs.Object as object
 use Rattle.object.proofs.Local.{checks-local}
 use Rattle.list.specs.List as list

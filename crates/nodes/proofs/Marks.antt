@@ -6,8 +6,8 @@ use Rattle.walk.specs.Walk.Items.{none}
 use Rattle.part.specs.Part.{part}
 use Rattle.dictionary.specs.Limits.{limit}
 use Rattle.dictionary.specs.Dictionary as dictionary
-use Rattle.encoding.specs.declared.Length.the-variants.{Known}
-use Rattle.encoding.specs.Encoding.{ownLength}
+use Rattle.lengths.specs.declared.Length.the-variants.{Known}
+use Rattle.lengths.specs.Lengths.{ownLength}
 use Rattle.texts.specs.declared.Span.{Span}
 use Rattle.marks.specs.Marks.{cleared}
 use Rattle.marks.proofs.Laws.{cleared-at, put-read}

@@ -15,7 +15,8 @@ use Rattle.layout.specs.declared.Widths.{Widths}
 use Rattle.layout.specs.Layout.{count, childStart, end}
 use Rattle.encoding.specs.declared.Header.{Header}
 use Rattle.encoding.specs.declared.Header.the-variants as header
-use Rattle.encoding.specs.Encoding.{headerOf, ownLength, bytesOf}
+use Rattle.encoding.specs.Encoding.{headerOf}
+use Rattle.lengths.specs.Lengths.{ownLength, bytesOf}
 use Rattle.layer.specs.Object as object
 use Rattle.list.specs.List as list
 use Rattle.leaf.specs.Leaf.{leaf}

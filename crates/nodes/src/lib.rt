@@ -62,7 +62,7 @@ pub fn recalled(whole: &[u8], a: usize, e: usize, left: usize, marks: &[u8]) -> 
     if left < m - 1 {
         return 0;
     }
-    if encoding::is_known(encoding::own_length(&whole[a..e])) {
+    if lengths::is_known(lengths::own_length(&whole[a..e])) {
         return m;
     }
     0

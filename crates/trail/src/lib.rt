@@ -39,8 +39,8 @@ fn refuses(dict: &[u8], s: &[u8], start: usize, end: usize, to: usize, depth: us
         return false;
     }
     let child = &s[start..end];
-    let length = encoding::own_length(child);
-    if encoding::is_known(length) && encoding::bytes_of(length) < to - start {
+    let length = lengths::own_length(child);
+    if lengths::is_known(length) && lengths::bytes_of(length) < to - start {
         return false;
     }
     let verdict = tree::check_at(dict, child, depth);

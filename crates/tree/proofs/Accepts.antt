@@ -8,8 +8,8 @@ use Rattle.metadata.proofs.Accepts as dictionary-accepts
 use Rattle.layout.specs.declared.Widths.{Widths}
 use Rattle.layout.specs.Layout.{count, start, end}
 use Rattle.encoding.specs.declared.Header.the-variants as header
-use Rattle.encoding.specs.declared.Length.the-variants.{Known}
-use Rattle.encoding.specs.Encoding.{ownLength, bytesOf}
+use Rattle.lengths.specs.declared.Length.the-variants.{Known}
+use Rattle.lengths.specs.Lengths.{ownLength, bytesOf}
 use Rattle.layer.specs.Object as object
 use Rattle.layer.specs.Meaning.{Layer}
 use Rattle.object.proofs.Means as object-means

@@ -10,8 +10,9 @@ use Rattle.layout.specs.declared.Widths.{Widths}
 use Rattle.layout.specs.Layout.{rules, end}
 use Rattle.layout.proofs.Appended.{rules-kept, end-same}
 use Rattle.encoding.specs.declared.Header.the-variants as header
-use Rattle.encoding.specs.Encoding.{headerOf, bytesOf}
-use Rattle.encoding.proofs.Laws.{of-none}
+use Rattle.encoding.specs.Encoding.{headerOf}
+use Rattle.lengths.specs.Lengths.{bytesOf}
+use Rattle.lengths.proofs.Laws.{of-none}
 use Rattle.layer.specs.Object as object
 use Rattle.layer.proofs.Alike as alike
 use Rattle.layer.proofs.Laws as object-laws

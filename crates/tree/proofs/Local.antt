@@ -3,9 +3,9 @@
 use Rattle.rules.proofs.Prelude.{_≡_, refl, sym, ap, _∙_, List, _++_, ℕ, zero, suc, _-_, _≤_, _<_, arith, length, length-append, Found, pass, stop}
 use Rattle.dictionary.specs.Limits.{limit}
 use Rattle.dictionary.specs.Dictionary as dictionary
-use Rattle.encoding.specs.declared.Length.the-variants.{Known}
-use Rattle.encoding.specs.Encoding.{ownLength, bytesOf}
-use Rattle.encoding.proofs.Appended.{appended}
+use Rattle.lengths.specs.declared.Length.the-variants.{Known}
+use Rattle.lengths.specs.Lengths.{ownLength, bytesOf}
+use Rattle.lengths.proofs.Appended.{appended}
 use Rattle.layer.specs.Object as object
 use Rattle.object.proofs.Local.{checks-dictionary}
 use Rattle.list.specs.List as list

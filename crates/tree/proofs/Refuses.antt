@@ -10,7 +10,7 @@ use Rattle.metadata.proofs.Refuses as dictionary-refuses
 use Rattle.layout.specs.declared.Widths.{Widths}
 use Rattle.layout.specs.Layout.{count, childStart}
 use Rattle.encoding.specs.declared.Header.the-variants as header
-use Rattle.encoding.specs.Encoding.{ownLength, bytesOf}
+use Rattle.lengths.specs.Lengths.{ownLength, bytesOf}
 use Rattle.layer.specs.Object as object
 use Rattle.object.proofs.Means as object-means
 use Rattle.object.proofs.Accepts as object-accepts

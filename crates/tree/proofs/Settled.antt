@@ -8,7 +8,8 @@ use Rattle.dictionary.specs.Limits.{limit}
 use Rattle.dictionary.specs.Dictionary as dictionary
 use Rattle.layout.specs.declared.Widths.{Widths}
 use Rattle.encoding.specs.declared.Header.the-variants as header
-use Rattle.encoding.specs.Encoding.{headerOf, ownLength, bytesOf}
+use Rattle.encoding.specs.Encoding.{headerOf}
+use Rattle.lengths.specs.Lengths.{ownLength, bytesOf}
 use Rattle.encoding.proofs.Laws.{object-says}
 use Rattle.layer.specs.Object as object
 use Rattle.layer.proofs.Laws as object-laws

@@ -61,7 +61,7 @@ fn check_marked(dict: &[u8], value: &[u8], depth: usize, marks: &mut [u8]) -> Ve
             ) {
                 Finding::Bad { refusal, start } => Verdict::Refused { refusal, start },
                 Finding::Good { .. } => Verdict::Accepted {
-                    end: encoding::bytes_of(encoding::own_length(value)),
+                    end: lengths::bytes_of(lengths::own_length(value)),
                 },
             }
         }

@@ -8,9 +8,10 @@ use lib.Ieee.Bits.{nanBits-is, toBits-ofBits}
 use Rattle.width.specs.Width.{le}
 use Rattle.encoding.specs.declared.Header.{Header}
 use Rattle.encoding.specs.declared.Header.the-variants as header
-use Rattle.encoding.specs.declared.Length.{Length}
-use Rattle.encoding.specs.declared.Length.the-variants as own
-use Rattle.encoding.specs.Encoding.{headerOf, ownLength}
+use Rattle.lengths.specs.declared.Length.{Length}
+use Rattle.lengths.specs.declared.Length.the-variants as own
+use Rattle.encoding.specs.Encoding.{headerOf}
+use Rattle.lengths.specs.Lengths.{ownLength}
 use Rattle.value.specs.Reading.{single, double, primitive, readBy, measured, reading}
 use Rattle.value.specs.Answers.{inTwo, valueNumbers, Numeral}
 use Rattle.value.proofs.Laws.{by-single, by-double, by-type}

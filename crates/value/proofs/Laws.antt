@@ -10,10 +10,11 @@ use Rattle.width.specs.Width.{le}
 use Rattle.number.specs.Signed.{signed}
 use Rattle.encoding.specs.declared.Header.{Header}
 use Rattle.encoding.specs.declared.Header.the-variants as header
-use Rattle.encoding.specs.declared.Length.{Length}
-use Rattle.encoding.specs.declared.Length.the-variants.{Known}
-use Rattle.encoding.specs.Encoding.{headerOf, payload, bytesBy, ownLength}
-use Rattle.encoding.proofs.Means.{known}
+use Rattle.lengths.specs.declared.Length.{Length}
+use Rattle.lengths.specs.declared.Length.the-variants.{Known}
+use Rattle.encoding.specs.Encoding.{headerOf}
+use Rattle.lengths.specs.Lengths.{payload, bytesBy, ownLength}
+use Rattle.lengths.proofs.Means.{known}
 use Rattle.value.specs.declared.Value.{Value}
 use Rattle.value.specs.declared.Value.the-variants.{Null, Bool as Truth, I8, I16, I32, I64, F32, F32Nan, F64, F64Nan, Bytes}
 use Rattle.value.specs.Reading.{single, double, payloadStart, primitive, readBy, measured, reading}

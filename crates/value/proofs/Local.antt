@@ -6,12 +6,13 @@ use Rattle.width.proofs.Laws.{le-append-at}
 use Rattle.number.proofs.Means.{signed-append-at}
 use Rattle.encoding.specs.declared.Header.{Header}
 use Rattle.encoding.specs.declared.Header.the-variants as header
-use Rattle.encoding.specs.declared.Length.{Length}
-use Rattle.encoding.specs.declared.Length.the-variants.{Known, Cut, Sum, Unknown, Longer}
-use Rattle.encoding.specs.Encoding.{headerOf, payload, ownLength}
-use Rattle.encoding.proofs.Appended as encoding
-use Rattle.encoding.proofs.Appended.{Settled, own-bytes}
-use Rattle.encoding.proofs.Cut.{cut-or-longer}
+use Rattle.lengths.specs.declared.Length.{Length}
+use Rattle.lengths.specs.declared.Length.the-variants.{Known, Cut, Sum, Unknown, Longer}
+use Rattle.encoding.specs.Encoding.{headerOf}
+use Rattle.lengths.specs.Lengths.{payload, ownLength}
+use Rattle.lengths.proofs.Appended as lengths
+use Rattle.lengths.proofs.Appended.{Settled, own-bytes}
+use Rattle.lengths.proofs.Cut.{cut-or-longer}
 use Rattle.value.specs.declared.Value.{Value}
 use Rattle.value.specs.declared.Value.the-variants as value
 use Rattle.value.specs.Reading.{single, double, primitive, readBy, measured, reading}
@@ -59,7 +60,7 @@ module _ (s u : List ℕ) where
 
   pub appended : Settled (ownLength s) → reading (s ++ u) ≡ reading s
   appended settled =
-      let same = encoding.appended s u settled in
+      let same = lengths.appended s u settled in
       sym (by-length (s ++ u) (sym same)) ∙ measured-same (ownLength s) refl ∙ by-length s refl
 
   -- so every reading stays but a refusal with 50

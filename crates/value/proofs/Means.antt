@@ -3,13 +3,14 @@ use Rattle.rules.proofs.Prelude.{_≡_, refl, sym, _∙_, _↔_, true, false, B
 use Rattle.width.specs.Width.{le}
 use Rattle.encoding.specs.declared.Header.{Header}
 use Rattle.encoding.specs.declared.Header.the-variants as header
-use Rattle.encoding.specs.declared.Length.{Length}
-use Rattle.encoding.specs.declared.Length.the-variants as length
-use Rattle.encoding.specs.Encoding.{headerOf, holdsLength, ownLength}
-use Rattle.encoding.specs.Meaning.{Lacks, Due}
-use Rattle.encoding.specs.Meaning.Lacks.{no-such-type as no-type, length-cut, count-cut, offsets-sum, start-sum, offsets-cut, end-sum, end-past}
-use Rattle.encoding.specs.Meaning.Due.{no-bytes as none-there, measured as whole, none}
-use Rattle.encoding.proofs.Means as own
+use Rattle.lengths.specs.declared.Length.{Length}
+use Rattle.lengths.specs.declared.Length.the-variants as length
+use Rattle.encoding.specs.Encoding.{headerOf}
+use Rattle.lengths.specs.Lengths.{holdsLength, ownLength}
+use Rattle.lengths.specs.Meaning.{Lacks, Due}
+use Rattle.lengths.specs.Meaning.Lacks.{no-such-type as no-type, length-cut, count-cut, offsets-sum, start-sum, offsets-cut, end-sum, end-past}
+use Rattle.lengths.specs.Meaning.Due.{no-bytes as none-there, measured as whole, none}
+use Rattle.lengths.proofs.Means as own
 use Rattle.value.specs.declared.Value.{Value}
 use Rattle.value.specs.declared.Value.the-variants.{Bytes, Unknown}
 use Rattle.value.specs.Reading.{single, double, payloadStart, primitive, readBy, measured, reading}

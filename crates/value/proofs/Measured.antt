@@ -2,9 +2,10 @@
 use Rattle.rules.proofs.Prelude.{_≡_, refl, _↔_, true, List, ℕ, arith, getD, codeOf, false-true}
 use Rattle.encoding.specs.declared.Header.{Header}
 use Rattle.encoding.specs.declared.Header.the-variants as header
-use Rattle.encoding.specs.declared.Length.{Length}
-use Rattle.encoding.specs.declared.Length.the-variants.{Known, Cut, Sum, Unknown, Longer}
-use Rattle.encoding.specs.Encoding.{headerOf, isKnown, ownLength}
+use Rattle.lengths.specs.declared.Length.{Length}
+use Rattle.lengths.specs.declared.Length.the-variants.{Known, Cut, Sum, Unknown, Longer}
+use Rattle.encoding.specs.Encoding.{headerOf}
+use Rattle.lengths.specs.Lengths.{isKnown, ownLength}
 use Rattle.value.specs.declared.Value.{Value}
 use Rattle.value.specs.Reading.{primitive, readBy, measured, reading}
 use Rattle.value.specs.Answers.{valueNumbers}

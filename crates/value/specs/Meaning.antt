@@ -11,9 +11,10 @@ use Rattle.number.specs.Signed.{signed}
 use Rattle.layout.specs.declared.Widths.{Widths}
 use Rattle.encoding.specs.declared.Header.{Header}
 use Rattle.encoding.specs.declared.Header.the-variants as header
-use Rattle.encoding.specs.declared.Length.the-variants.{Cut, Sum, Longer}
-use Rattle.encoding.specs.Encoding.{headerOf, holdsLength}
-use Rattle.encoding.specs.Meaning.{Encoded, Lacks}
+use Rattle.lengths.specs.declared.Length.the-variants.{Cut, Sum, Longer}
+use Rattle.encoding.specs.Encoding.{headerOf}
+use Rattle.lengths.specs.Lengths.{holdsLength}
+use Rattle.lengths.specs.Meaning.{Encoded, Lacks}
 use Rattle.value.specs.declared.Value.{Value}
 use Rattle.value.specs.declared.Value.the-variants.{Null, Bool as Truth, I8, I16, I32, I64, F32, F32Nan, F64, F64Nan, Bytes, Short, Unknown}
 

@@ -2,8 +2,8 @@
 ghost use mathlib.Core.Path.{_≡_};
 ghost use Prim.Native.Nat.{_+_, _≤_};
 ghost use lib.ListN.{length};
-ghost use Rattle.encoding.specs.Encoding.{payload, ownLength};
-ghost use Rattle.encoding.specs.declared.Length.the-variants.{Known};
+ghost use Rattle.lengths.specs.Lengths.{payload, ownLength};
+ghost use Rattle.lengths.specs.declared.Length.the-variants.{Known};
 ghost use Rattle.value.specs.Reading.{single as singleOf, double as doubleOf, payloadStart, primitive as primitiveOf};
 ghost use Rattle.value.specs.Promises.{ReadPromise};
 
@@ -52,7 +52,7 @@ fn double(n: u64) -> Value
 fn payload_start(t: usize) -> usize
     ensures { λ r. ⌜ r ≡ payloadStart t ⌝ }
 {
-    if encoding::holds_length(t) {
+    if lengths::holds_length(t) {
         return 5;
     }
     1
@@ -110,12 +110,12 @@ fn whole(s: &[u8], end: usize) -> Value
 pub fn read(value: &[u8]) -> Value
     ensures { λ r. ⌜ ReadPromise (now (value .entry)) r ⌝ }
 {
-    let length = encoding::own_length(value);
+    let length = lengths::own_length(value);
     match length {
-        encoding::Length::Known(end) => whole(value, end),
-        encoding::Length::Cut => Value::Short,
-        encoding::Length::Sum => Value::Short,
-        encoding::Length::Unknown => Value::Unknown,
-        encoding::Length::Longer => Value::Short,
+        lengths::Length::Known(end) => whole(value, end),
+        lengths::Length::Cut => Value::Short,
+        lengths::Length::Sum => Value::Short,
+        lengths::Length::Unknown => Value::Unknown,
+        lengths::Length::Longer => Value::Short,
     }
 }

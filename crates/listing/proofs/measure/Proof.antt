@@ -1,6 +1,6 @@
 -- `listing::measure` meets its contract: the loop keeps that the children before k have their own length. Assumes nothing.
 use Rattle.rules.proofs.Prelude.{_≡_, _∙_, sym, ap, _-_, _≤_, arith, first, each, pass, first-at, first-pass, each-none, each-more, each-stop, _&_, not-true, not-false}
-use Rattle.encoding.specs.Encoding.{isKnown}
+use Rattle.lengths.specs.Lengths.{isKnown}
 use Rattle.layer.specs.Object.{count as countOf}
 use Rattle.layer.proofs.Laws.{count-below}
 use Rattle.listing.specs.Words.{spanRules}

@@ -1,7 +1,7 @@
 -- `listing::own_length` meets its contract: the child is the part from its start to the trimmed end. Assumes nothing.
 use Rattle.rules.proofs.Prelude.{_∙_, ap, arith, needs, _+_, _≤_}
 use Rattle.width.specs.Limits.{u32Max}
-use Rattle.encoding.specs.Encoding.{ownLength}
+use Rattle.lengths.specs.Lengths.{ownLength}
 use Rattle.layer.proofs.Laws.{end-is}
 use Rattle.listing.proofs.Laws.{child-is}
 use Rattle.listing.proofs.own_length.Statement.{statement}

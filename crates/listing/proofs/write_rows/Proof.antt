@@ -2,7 +2,7 @@
 use Rattle.rules.proofs.Prelude.{_≡_, _∙_, ap, refl, List, ℕ, _++_, _+_, _-_, _*_, _≤_, arith, length, drop, length-set}
 use Rattle.rules.proofs.Rows.{rows-none}
 use Rattle.width.specs.Limits.{u32Max}
-use Rattle.encoding.specs.Encoding.{bytesOf}
+use Rattle.lengths.specs.Lengths.{bytesOf}
 use Rattle.layer.specs.declared.Layer.{Layer}
 use Rattle.layer.specs.Object.{count as countOf}
 use Rattle.listing.specs.Words.{span, rows}

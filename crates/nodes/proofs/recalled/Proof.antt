@@ -1,8 +1,8 @@
 -- `nodes::recalled` meets its contract: a mark is of a value that is good, and its own length fits the end at hand. Assumes nothing.
 use Rattle.rules.proofs.Prelude.{sym, ap, _∙_, arith, needs}
 use Rattle.part.specs.Part.{part}
-use Rattle.encoding.specs.Encoding.{isKnown}
-use Rattle.encoding.proofs.Means.{is-known}
+use Rattle.lengths.specs.Lengths.{isKnown}
+use Rattle.lengths.proofs.Means.{is-known}
 use Rattle.nodes.proofs.Marks.{marked-use}
 use Rattle.nodes.proofs.recalled.Statement.{statement}
 use Rattle.nodes.proofs.recalled.Tie as tie

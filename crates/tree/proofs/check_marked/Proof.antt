@@ -1,7 +1,7 @@
 -- `tree::check_marked` meets its contract: the dictionary, the limit, and what is found of the whole as a value. Assumes nothing.
 use Rattle.rules.proofs.Prelude.{ap, _∙_, _≤_, arith, needs, length}
 use Rattle.dictionary.specs.Limits.{limit}
-use Rattle.encoding.specs.Encoding.{bytesOf}
+use Rattle.lengths.specs.Lengths.{bytesOf}
 use Rattle.nodes.specs.Tree.{levels}
 use Rattle.nodes.proofs.Marks.{remembers-none}
 use Rattle.tree.proofs.Settled.{by-dictionary, too-long, refused-by, found-bad, found-good}

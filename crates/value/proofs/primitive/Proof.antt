@@ -4,7 +4,7 @@ use lib.IntN.{ℤ}
 use mir.Syntax.{Width, w8, w16, w32, w64}
 use mir.Val.{SFits, toZ, ofZ}
 use mir.Facts.{toZ-ofZ}
-use Rattle.encoding.specs.Encoding.{payload}
+use Rattle.lengths.specs.Lengths.{payload}
 use Rattle.value.specs.declared.Value.the-variants.{I8, I16, I32, I64}
 use Rattle.value.specs.Reading.{single, double, primitive}
 use Rattle.value.proofs.Laws.{from-eight, placed-is}

@@ -1,10 +1,10 @@
--- `encoding::layout_length` meets its contract: the layout's own table, by cases. Assumes nothing.
+-- `lengths::layout_length` meets its contract: the layout's own table, by cases. Assumes nothing.
 use Rattle.rules.proofs.Prelude.{ap, arith, needs, first-pass}
 use Rattle.layout.specs.Layout.{rules}
-use Rattle.encoding.specs.declared.Length.the-variants.{Known}
-use Rattle.encoding.specs.Encoding.{bytesBy, lengthRules, caseOf, lengthBy}
-use Rattle.encoding.proofs.layout_length.Statement.{statement}
-use Rattle.encoding.proofs.layout_length.Tie as tie
+use Rattle.lengths.specs.declared.Length.the-variants.{Known}
+use Rattle.lengths.specs.Lengths.{bytesBy, lengthRules, caseOf, lengthBy}
+use Rattle.lengths.proofs.layout_length.Statement.{statement}
+use Rattle.lengths.proofs.layout_length.Tie as tie
 
 pub layout-length-spec : {M : Type 1} → statement M
 unfolding bytesBy lengthRules caseOf lengthBy

@@ -1,9 +1,9 @@
--- `encoding::primitive_length` meets its contract: the type, then the length that it holds, then the end. Assumes nothing.
+-- `lengths::primitive_length` meets its contract: the type, then the length that it holds, then the end. Assumes nothing.
 use Rattle.rules.proofs.Prelude.{_∙_, sym, add-zero, needs, false-true}
-use Rattle.encoding.specs.Encoding.{payload}
-use Rattle.encoding.proofs.Laws.{no-such-type, length-cut, to-its-end, held-some, held-none}
-use Rattle.encoding.proofs.primitive_length.Statement.{statement}
-use Rattle.encoding.proofs.primitive_length.Tie as tie
+use Rattle.lengths.specs.Lengths.{payload}
+use Rattle.lengths.proofs.Laws.{no-such-type, length-cut, to-its-end, held-some, held-none}
+use Rattle.lengths.proofs.primitive_length.Statement.{statement}
+use Rattle.lengths.proofs.primitive_length.Tie as tie
 
 pub primitive-length-spec : {M : Type 1} → statement M
 unfolding payload

@@ -1,12 +1,12 @@
--- `encoding::own_length` meets its contract: no bytes, or by what the header byte says. Assumes nothing.
+-- `lengths::own_length` meets its contract: no bytes, or by what the header byte says. Assumes nothing.
 use Rattle.rules.proofs.Prelude.{_≡_, _∙_, List, ℕ, _≤_, arith, needs, length, getD}
 use Rattle.encoding.specs.declared.Header.{Header}
-use Rattle.encoding.specs.declared.Length.{Length}
-use Rattle.encoding.specs.Encoding.{lengthBy, ownLength}
+use Rattle.lengths.specs.declared.Length.{Length}
+use Rattle.lengths.specs.Lengths.{lengthBy, ownLength}
 use Rattle.encoding.specs.Promises.{HeaderPromise}
-use Rattle.encoding.proofs.Laws.{of-none, of-some, short-end, list-as-object}
-use Rattle.encoding.proofs.own_length.Statement.{statement}
-use Rattle.encoding.proofs.own_length.Tie as tie
+use Rattle.lengths.proofs.Laws.{of-none, of-some, short-end, list-as-object}
+use Rattle.lengths.proofs.own_length.Statement.{statement}
+use Rattle.lengths.proofs.own_length.Tie as tie
 
 -- what a step answers for the header of the first byte is the own length
 told : (s : List ℕ) (h : Header) {r : Length} → HeaderPromise (getD s 0 0) h → 1 ≤ length s → r ≡ lengthBy h s → r ≡ ownLength s

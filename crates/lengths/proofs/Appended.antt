@@ -9,13 +9,14 @@ use Rattle.width.specs.Width.{le}
 use Rattle.width.proofs.Laws.{le-append-at}
 use Rattle.layout.specs.Layout as layout
 use Rattle.layout.proofs.Appended as layout-appended
 use Rattle.encoding.specs.declared.Header.{Header}
 use Rattle.encoding.specs.declared.Header.the-variants as header
-use Rattle.encoding.specs.declared.Length.{Length}
-use Rattle.encoding.specs.declared.Length.the-variants.{Known, Cut, Sum, Unknown, Longer}
-use Rattle.encoding.specs.Encoding.{headerOf, holdsLength, held, bytesBy, lengthRules, caseOf, lengthBy, ownLength}
-use Rattle.encoding.proofs.Laws.{by-passes, by-known, of-some, holds-four, bytes-some}
-use Rattle.encoding.proofs.Means.{known}
+use Rattle.lengths.specs.declared.Length.{Length}
+use Rattle.lengths.specs.declared.Length.the-variants.{Known, Cut, Sum, Unknown, Longer}
+use Rattle.encoding.specs.Encoding.{headerOf}
+use Rattle.lengths.specs.Lengths.{holdsLength, held, bytesBy, lengthRules, caseOf, lengthBy, ownLength}
+use Rattle.lengths.proofs.Laws.{by-passes, by-known, of-some, holds-four, bytes-some}
+use Rattle.lengths.proofs.Means.{known}
 
 -- the cases that more bytes may lift: a cut header, and longer than the bytes
 abbrev pub lifted : ℕ → Bool

@@ -1,5 +1,5 @@
 -- What an encoding is, in the words of document 02, f), and VariantEncoding.md: the rules that hold of a value with an own length, and when it
--- has none. proofs/Means.antt shows that `ownLength` of Encoding.antt says the same. Assumes nothing.
+-- has none. proofs/Means.antt shows that `ownLength` of Lengths.antt says the same. Assumes nothing.
 use mathlib.Core.Path.{_≡_}
 use mathlib.Core.Bool.{true}
 use mathlib.Core.List.{List}
@@ -8,11 +8,12 @@ use lib.ListN.{length, getD}
 use Rattle.width.specs.Limits.{u32Max}
 use Rattle.layout.specs.declared.Widths.{Widths}
 use Rattle.layout.specs.Layout as layout
 use Rattle.encoding.specs.declared.Header.{Header}
 use Rattle.encoding.specs.declared.Header.the-variants as header
-use Rattle.encoding.specs.declared.Length.{Length}
-use Rattle.encoding.specs.declared.Length.the-variants.{Known, Cut, Sum, Unknown, Longer}
-use Rattle.encoding.specs.Encoding.{headerOf, holdsLength, bytesBy}
+use Rattle.lengths.specs.declared.Length.{Length}
+use Rattle.lengths.specs.declared.Length.the-variants.{Known, Cut, Sum, Unknown, Longer}
+use Rattle.encoding.specs.Encoding.{headerOf}
+use Rattle.lengths.specs.Lengths.{holdsLength, bytesBy}
 
 -- WHAT THE HEADER MUST HAVE, by what its first byte says
 

@@ -1,8 +1,8 @@
--- `encoding::fixed_length` meets its contract: the table's bytes after the header byte, of a type that holds no length. Assumes nothing.
+-- `lengths::fixed_length` meets its contract: the table's bytes after the header byte, of a type that holds no length. Assumes nothing.
 use Rattle.rules.proofs.Prelude.{sym, arith, needs, lt-ltb, le-ltb}
-use Rattle.encoding.specs.Encoding.{payload, fixedLength}
-use Rattle.encoding.proofs.fixed_length.Statement.{statement}
-use Rattle.encoding.proofs.fixed_length.Tie as tie
+use Rattle.lengths.specs.Lengths.{payload, fixedLength}
+use Rattle.lengths.proofs.fixed_length.Statement.{statement}
+use Rattle.lengths.proofs.fixed_length.Tie as tie
 
 pub fixed-length-spec : {M : Type 1} → statement M
 unfolding fixedLength payload

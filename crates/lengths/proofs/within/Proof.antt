@@ -1,9 +1,9 @@
--- `encoding::within` meets its contract: each refusal is the first row that holds. The limit is opened here. Assumes nothing.
+-- `lengths::within` meets its contract: each refusal is the first row that holds. The limit is opened here. Assumes nothing.
 use Rattle.rules.proofs.Prelude.{arith, first-at, first-pass}
 use Rattle.width.specs.Limits.{u32Max}
-use Rattle.encoding.specs.Encoding.{endRules, caseOf}
-use Rattle.encoding.proofs.within.Statement.{statement}
-use Rattle.encoding.proofs.within.Tie as tie
+use Rattle.lengths.specs.Lengths.{endRules, caseOf}
+use Rattle.lengths.proofs.within.Statement.{statement}
+use Rattle.lengths.proofs.within.Tie as tie
 
 pub within-spec : {M : Type 1} → statement M
 unfolding u32Max caseOf

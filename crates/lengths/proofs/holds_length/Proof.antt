@@ -1,8 +1,8 @@
--- `encoding::holds_length` meets its contract: two types do. Assumes nothing.
+-- `lengths::holds_length` meets its contract: two types do. Assumes nothing.
 use Rattle.rules.proofs.Prelude.{eq-eqb, ne-eqb}
-use Rattle.encoding.specs.Encoding.{holdsLength}
-use Rattle.encoding.proofs.holds_length.Statement.{statement}
-use Rattle.encoding.proofs.holds_length.Tie as tie
+use Rattle.lengths.specs.Lengths.{holdsLength}
+use Rattle.lengths.proofs.holds_length.Statement.{statement}
+use Rattle.lengths.proofs.holds_length.Tie as tie
 
 pub holds-length-spec : {M : Type 1} → statement M
 unfolding holdsLength

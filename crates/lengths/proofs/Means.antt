@@ -5,17 +5,18 @@ use Rattle.rules.proofs.Laws.Meant.{all-pass, one-stops}
 use Rattle.width.specs.Limits.{u32Max}
 use Rattle.layout.specs.declared.Widths.{Widths}
 use Rattle.layout.specs.Layout as layout
 use Rattle.encoding.specs.declared.Header.{Header}
 use Rattle.encoding.specs.declared.Header.the-variants as header
-use Rattle.encoding.specs.declared.Length.{Length}
-use Rattle.encoding.specs.declared.Length.the-variants.{Known, Cut, Sum, Unknown, Longer}
-use Rattle.encoding.specs.Encoding.{headerOf, bytesBy, lengthRules, caseOf, lengthBy, ownLength, isKnown, bytesOf}
-use Rattle.encoding.specs.Meaning.{Typed, Counted, Headed, Encoded, Laid, Lacks, Due}
-use Rattle.encoding.specs.Meaning.Laid.{as-object, as-list}
-use Rattle.encoding.specs.Meaning.Lacks.{no-such-type, length-cut, count-cut, offsets-sum, start-sum, offsets-cut, end-sum, end-past}
-use Rattle.encoding.specs.Meaning.Due.{no-bytes, measured, none}
-use Rattle.encoding.proofs.Laws as laws
-use Rattle.encoding.proofs.Laws.{by-passes, of-none, of-some}
+use Rattle.lengths.specs.declared.Length.{Length}
+use Rattle.lengths.specs.declared.Length.the-variants.{Known, Cut, Sum, Unknown, Longer}
+use Rattle.encoding.specs.Encoding.{headerOf}
+use Rattle.lengths.specs.Lengths.{bytesBy, lengthRules, caseOf, lengthBy, ownLength, isKnown, bytesOf}
+use Rattle.lengths.specs.Meaning.{Typed, Counted, Headed, Encoded, Laid, Lacks, Due}
+use Rattle.lengths.specs.Meaning.Laid.{as-object, as-list}
+use Rattle.lengths.specs.Meaning.Lacks.{no-such-type, length-cut, count-cut, offsets-sum, start-sum, offsets-cut, end-sum, end-past}
+use Rattle.lengths.specs.Meaning.Due.{no-bytes, measured, none}
+use Rattle.lengths.proofs.Laws as laws
+use Rattle.lengths.proofs.Laws.{by-passes, of-none, of-some}
 
 -- EACH HEADER'S TABLE, ROW BY ROW
 

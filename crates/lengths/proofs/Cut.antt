@@ -1,9 +1,9 @@
 -- A value cut anywhere before its own length has a cut header, or is longer than the bytes. Assumes nothing.
 use Rattle.rules.proofs.Prelude.{_≡_, refl, sym, _∙_, _⊎_, inl, inr, List, ℕ, _<_, arith, take, drop, take-append-drop, length-take}
-use Rattle.encoding.specs.declared.Length.{Length}
-use Rattle.encoding.specs.declared.Length.the-variants.{Known, Cut, Sum, Unknown, Longer}
-use Rattle.encoding.specs.Encoding.{ownLength}
-use Rattle.encoding.proofs.Appended.{Settled, appended, at-hand}
+use Rattle.lengths.specs.declared.Length.{Length}
+use Rattle.lengths.specs.declared.Length.the-variants.{Known, Cut, Sum, Unknown, Longer}
+use Rattle.lengths.specs.Lengths.{ownLength}
+use Rattle.lengths.proofs.Appended.{Settled, appended, at-hand}
 
 module _ (s : List ℕ) (n m : ℕ) (e : ownLength s ≡ Known n) (cut : m < n) where
   -- a settled answer to the bytes that are left would be that to all

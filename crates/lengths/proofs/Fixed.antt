@@ -2,13 +2,14 @@
 use Rattle.rules.proofs.Prelude.{_≡_, refl, sym, _∙_, Bool, true, false, cond, _||_, List, [], _∷_, ℕ, zero, suc, _+_, _≤_, _<_, arith, length, getD, ltb, ltb-false, false-true}
 use Rattle.rules.proofs.Laws.{neither}
 use Rattle.width.specs.Limits.{u32Max}
 use Rattle.encoding.specs.declared.Header.the-variants as header
-use Rattle.encoding.specs.declared.Length.the-variants.{Known}
-use Rattle.encoding.specs.Encoding.{headerOf, payload, payloads, holdsLength, bytesBy, fixedLength, ownLength}
-use Rattle.encoding.specs.Meaning.{Typed, Encoded}
-use Rattle.encoding.specs.Meaning.Due.{measured}
-use Rattle.encoding.proofs.Laws.{held-none}
-use Rattle.encoding.proofs.Means.{exactly-when}
+use Rattle.lengths.specs.declared.Length.the-variants.{Known}
+use Rattle.encoding.specs.Encoding.{headerOf}
+use Rattle.lengths.specs.Lengths.{payload, payloads, holdsLength, bytesBy, fixedLength, ownLength}
+use Rattle.lengths.specs.Meaning.{Typed, Encoded}
+use Rattle.lengths.specs.Meaning.Due.{measured}
+use Rattle.lengths.proofs.Laws.{held-none}
+use Rattle.lengths.proofs.Means.{exactly-when}
 
 -- what such a type is
 pub record Fixed (t : ℕ) : Type 0 where

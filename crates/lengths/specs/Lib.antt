@@ -1,0 +1,4 @@
+pub mod Lengths
+pub mod Meaning
+pub mod Promises
+pub mod Steps
