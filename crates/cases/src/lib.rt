@@ -10,6 +10,7 @@ use ask::Answer;
 use print::room::use_library;
 use print::tell;
 use print::write_words;
+use slices::first;
 use text::Numeral;
 use text::hex;
 use text::number;
@@ -413,14 +414,6 @@ pub fn answer(
         8 => layer(rest, dict, object, true),
         _ => Outcome::NoCase(UNKNOWN),
     }
-}
-
-// The first `n` words, or none where there are not so many.
-fn first(words: &[u32], n: usize) -> &[u32] {
-    if words.len() < n {
-        return &words[0..0];
-    }
-    &words[0..n]
 }
 
 // An answer as a line has it: six numbers, and where words were filled ` :` and these; or `? ` and why the line is no case. `room` is how

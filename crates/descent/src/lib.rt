@@ -64,7 +64,7 @@ fn check_new(
     requires { ⌜ Within (now dict) h (now whole) a e × (left ≤ 32) × Remembers (now dict) (now whole) (now marks) known ⌝ }
     ensures { λ r. ⌜ CheckOf (now (dict .entry)) left (now (whole .entry)) a e (now (marks .exit)) r ⌝ }
 {
-    let header = encoding::header_of(nodes::first_byte(whole, a, e));
+    let header = encoding::header_of(part::first_byte(whole, a, e));
     match header {
         Header::Primitive(_) => nodes::check_leaf(whole, a, e, known),
         Header::ShortString(_) => nodes::check_leaf(whole, a, e, known),
@@ -171,7 +171,7 @@ fn check_children(
                     height: below,
                     known: more,
                 } => {
-                    height = nodes::larger(height, below);
+                    height = marks::larger(height, below);
                     text = more;
                     k += 1;
                 }

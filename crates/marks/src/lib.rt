@@ -1,6 +1,6 @@
 // Marks: lent bytes, one for a place. Where none is lent for a place, none is kept, and it reads as 0.
 ghost use mathlib.Core.Path.{_≡_};
-ghost use Prim.Native.Nat.{_<_};
+ghost use Prim.Native.Nat.{ℕ, _≤_, _<_};
 ghost use lib.ListN.{getD, set};
 ghost use Rattle.marks.specs.Marks.{cleared};
 
@@ -33,4 +33,14 @@ pub fn clear(marks: &mut [u8])
         marks[k] = 0;
         k += 1;
     }
+}
+
+// The larger of two heights.
+pub fn larger(a: usize, b: usize) -> usize
+    ensures { λ r. ⌜ (a ≤ r) × (b ≤ r) × ((n : ℕ) → a ≤ n → b ≤ n → r ≤ n) ⌝ }
+{
+    if a < b {
+        return b;
+    }
+    a
 }

@@ -34,10 +34,6 @@ own-refused d s a left h = rw (add-one left) (at-start a (h left))
 pub too-deep : (d s : List ℕ) (a left : ℕ) → left ≡ 0 → tree d 0 s ≡ wrong 52 0 0 → from a (tree d left s) ≡ wrong 52 0 a
 too-deep d s a left z e = rw z (at-start a e)
 
--- NO BYTES: the first reads as 0
-pub no-byte : (w : List ℕ) (a e : ℕ) → e ≤ a → 0 ≡ getD (part w a e) 0 0
-no-byte w a e p = let none : e - a ≡ 0 = omega arith in rw none
-
 -- A LEAF from a to e of the whole
 module _ (w : List ℕ) (a e : ℕ) where
   pub leaf-bad : {c : ℕ} → leaf (part w a e) ≡ stop c 0 → (d marks : List ℕ) (left : ℕ) → IsLeaf (headOf (part w a e)) → Marked d w marks

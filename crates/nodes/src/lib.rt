@@ -1,7 +1,7 @@
 // What the check of a tree is made of: what it comes to, what is remembered, leaves, and where a container's children stand.
 ghost use mathlib.Core.Path.{_≡_};
-ghost use Prim.Native.Nat.{ℕ, _≤_, _<_};
-ghost use lib.ListN.{length, getD};
+ghost use Prim.Native.Nat.{_≤_, _<_};
+ghost use lib.ListN.{length};
 ghost use Rattle.part.specs.Part.{part};
 ghost use Rattle.layout.specs.Layout.{count as countOf};
 ghost use Rattle.layout.specs.Steps.{Few};
@@ -39,16 +39,6 @@ pub enum Opening {
     Open(Container),
 }
 
-// The larger of two heights.
-pub fn larger(a: usize, b: usize) -> usize
-    ensures { λ r. ⌜ (a ≤ r) × (b ≤ r) × ((n : ℕ) → a ≤ n → b ≤ n → r ≤ n) ⌝ }
-{
-    if a < b {
-        return b;
-    }
-    a
-}
-
 // 1 + the levels by which the marks know the value from a to e to be good, where that is few enough; 0 where they do not. A mark is of a
 // start: the value has to end within what is at hand, too.
 pub fn recalled(whole: &[u8], a: usize, e: usize, left: usize, marks: &[u8]) -> usize
@@ -64,17 +54,6 @@ pub fn recalled(whole: &[u8], a: usize, e: usize, left: usize, marks: &[u8]) -> 
     }
     if lengths::is_known(lengths::own_length(&whole[a..e])) {
         return m;
-    }
-    0
-}
-
-// The first byte of the value from a to e; 0 where it has none.
-pub fn first_byte(whole: &[u8], a: usize, e: usize) -> u8
-    requires { ⌜ (a ≤ e) × (e ≤ length (now whole)) ⌝ }
-    ensures { λ r. ⌜ r ≡ getD (part (now (whole .entry)) a e) 0 0 ⌝ }
-{
-    if a < e {
-        return whole[a];
     }
     0
 }

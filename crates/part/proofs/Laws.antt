@@ -24,6 +24,10 @@ part-at s f t k p = getD-take (t - f) (drop f s) k 0 (omega arith) ∙ getD-drop
 pub part-first : (s : List ℕ) (f t : ℕ) → f < t → getD (part s f t) 0 0 ≡ getD s f 0
 part-first s f t p = part-at s f t 0 (omega arith) ∙ rw add-zero
 
+-- of a part with no bytes the first reads as 0
+pub no-byte : (w : List ℕ) (a e : ℕ) → e ≤ a → 0 ≡ getD (part w a e) 0 0
+no-byte w a e p = let none : e - a ≡ 0 = omega arith in rw none
+
 drop-take : (n b : ℕ) (s : List ℕ) → drop b (take n s) ≡ take (n - b) (drop b s)
 drop-take n zero s = rw sub-zero
 drop-take zero (suc b) s = rw zero-sub

@@ -9,8 +9,8 @@ use print::say;
 use print::tell;
 use print::wide;
 use print::write_hex;
+use slices::part_of;
 use speak::counted;
-use speak::part_of;
 use speak::start_of;
 
 // That one of the two is longer than any that the library reads.

@@ -2,7 +2,6 @@
 ghost use Rattle.layout.specs.Steps.{Few};
 use crate::counted;
 use crate::numbers::write_signed;
-use crate::part_of;
 use crate::start_of;
 use encoding::Header;
 use layout::Head;
@@ -11,6 +10,7 @@ use print::quoted;
 use print::say;
 use print::tell;
 use print::write_hex;
+use slices::part_of;
 use utf8::Verdict;
 use width::wide;
 

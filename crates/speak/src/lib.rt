@@ -6,17 +6,7 @@ use ask::Answer;
 use print::say;
 use print::tell;
 use print::write_hex;
-
-// The part of `s` from `start` to `end`; nothing where there is none.
-pub fn part_of(s: &[u8], start: usize, end: usize) -> &[u8] {
-    if s.len() < end {
-        return &s[0..0];
-    }
-    if end < start {
-        return &s[0..0];
-    }
-    &s[start..end]
-}
+use slices::part_of;
 
 // So many of these after some words: one, or more or none.
 pub fn counted(words: &[u8], n: usize, one: &[u8], more: &[u8]) {

@@ -28,14 +28,14 @@ use Rattle.descent.proofs.check_value.Kinds as check-value-kinds
 use Rattle.descent.proofs.+check_children+check_list+check_new+check_object+check_value.Lts-check_value as check-value-lts
 use Rattle.encoding.proofs.header_of.Reads as header-of-reads
 use Rattle.leaf.proofs.is_small.Reads as is-small-reads
+use Rattle.marks.proofs.larger.Reads as larger-reads
 use Rattle.marks.proofs.put.Reads as put-reads
 use Rattle.nodes.proofs.check_leaf.Reads as check-leaf-reads
 use Rattle.nodes.proofs.child_at.Reads as child-at-reads
-use Rattle.nodes.proofs.first_byte.Reads as first-byte-reads
-use Rattle.nodes.proofs.larger.Reads as larger-reads
 use Rattle.nodes.proofs.open_list.Reads as open-list-reads
 use Rattle.nodes.proofs.open_object.Reads as open-object-reads
 use Rattle.nodes.proofs.recalled.Reads as recalled-reads
+use Rattle.part.proofs.first_byte.Reads as first-byte-reads
 use Rattle.descent.proofs.+check_children+check_list+check_new+check_object+check_value.{statement}
 use Rattle.descent.proofs.+check_children+check_list+check_new+check_object+check_value.Tie.{close}
 

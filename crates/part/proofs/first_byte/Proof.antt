@@ -1,9 +1,9 @@
--- `nodes::first_byte` meets its contract: the part's first byte, or none. Assumes nothing.
-use Rattle.rules.proofs.Prelude.{sym, arith}
-use Rattle.part.proofs.Laws.{part-first}
-use Rattle.nodes.proofs.Steps.{no-byte}
-use Rattle.nodes.proofs.first_byte.Statement.{statement}
-use Rattle.nodes.proofs.first_byte.Tie as tie
+-- `part::first_byte` meets its contract: the part's first byte, or none. Assumes nothing.
+use mathlib.Core.Path.{sym}
+use native.Mathlib.Omega.{arith}
+use Rattle.part.proofs.Laws.{part-first, no-byte}
+use Rattle.part.proofs.first_byte.Statement.{statement}
+use Rattle.part.proofs.first_byte.Tie as tie
 
 pub first-byte-spec : {M : Type 1} → statement M
 first-byte-spec =
