@@ -9,7 +9,7 @@ use borrow.Author.Tests.{ltb-true, lt-ltb, le-ltb, lt-leb, le-leb, ne-eqb}
 use lib.Dec.{ltb, leb}
 use lib.ListN.{length, take, drop, getD, drop-of-length-le}
 use lib.Seq.{drop-cons}
-use Rattle.brackets.specs.Brackets.{Number, oneMore, closes, content, firstOr, lastOr, unquoted, digits, unsigned, someDigits, small, number}
+use Rattle.brackets.specs.Brackets.{indexLimit, Number, oneMore, closes, content, firstOr, lastOr, unquoted, digits, unsigned, someDigits, small, number}
 use Rattle.brackets.specs.Brackets.Number.{none, is}
 use Rattle.brackets.specs.Steps.{later, ByteOf, LookOf}
 use Rattle.brackets.specs.declared.Look.{Look}
@@ -140,9 +140,9 @@ survey-close s from at count last r (e, f, g) =
 
 pub data Large : Number → Type 0 where
   no : Large none
-  big : {n : ℕ} → 18446744073709551616 ≤ n → Large (is n)
+  big : {n : ℕ} → indexLimit ≤ n → Large (is n)
 
-pub digits-large : (n : ℕ) (t : List ℕ) → 18446744073709551616 ≤ n → Large (digits n t)
+pub digits-large : (n : ℕ) (t : List ℕ) → indexLimit ≤ n → Large (digits n t)
 unfolding digits
 digits-large n [] h = big h
 digits-large n (b ∷ t) h = go (leb 48 b && leb b 57) (digits-large (10 * n + (b - 48)) t (omega arith))
@@ -153,7 +153,7 @@ digits-large n (b ∷ t) h = go (leb 48 b && leb b 57) (digits-large (10 * n + (
 
 pub small-large : {x : Number} → Large x → small x ≡ none
 small-large no = refl
-small-large (big {n = n} h) = rw (le-ltb n 18446744073709551616 h)
+small-large (big {n = n} h) = rw (le-ltb n indexLimit h)
 
 module _ (s : List ℕ) (at value byte size : ℕ) (b : ByteOf s at byte size) where
   pub digits-low : byte < 48 → small (digits value (content false (drop at s))) ≡ none
@@ -168,12 +168,12 @@ module _ (s : List ℕ) (at value byte size : ℕ) (b : ByteOf s at byte size) w
   unfolding digits
   digits-more h k = rw (b .content-is, le-leb 48 byte h, le-leb byte 57 k)
 
-  pub digits-over : 48 ≤ byte → byte ≤ 57 → 18446744073709551616 ≤ 10 * value + (byte - 48) → small (digits value (content false (drop at s))) ≡ none
+  pub digits-over : 48 ≤ byte → byte ≤ 57 → indexLimit ≤ 10 * value + (byte - 48) → small (digits value (content false (drop at s))) ≡ none
   digits-over h k o = rw (digits-more h k) (small-large (digits-large (10 * value + (byte - 48)) (content false (drop (at + size) s)) o))
 
-pub digits-end : (s : List ℕ) (at value : ℕ) → content false (drop at s) ≡ [] → value < 18446744073709551616 → is value ≡ small (digits value (content false (drop at s)))
+pub digits-end : (s : List ℕ) (at value : ℕ) → content false (drop at s) ≡ [] → value < indexLimit → is value ≡ small (digits value (content false (drop at s)))
 unfolding digits
-digits-end s at value e h = rw (e, lt-ltb value 18446744073709551616 h)
+digits-end s at value e h = rw (e, lt-ltb value indexLimit h)
 
 -- at least one digit, after a plus or none
 pub some-none : (s : List ℕ) (at : ℕ) → content false (drop at s) ≡ [] → small (someDigits (content false (drop at s))) ≡ none
@@ -198,17 +198,17 @@ module _ (s : List ℕ) (at byte size : ℕ) (b : ByteOf s at byte size) where
   number-plain e = rw (b .content-is, ne-eqb byte 43 e)
 
 -- it is below 2 to the 64th
-small-below : (x : Number) (n : ℕ) → small x ≡ is n → n < 18446744073709551616
-small-below none n e = let z : _≡_ {A = ℕ} 0 1 = cc in absurd (omega arith)
-small-below (is k) n e = go (ltb k 18446744073709551616) refl e
+pub small-is : (x : Number) (n : ℕ) → small x ≡ is n → (x ≡ is n) × (n < indexLimit)
+small-is none n e = let z : _≡_ {A = ℕ} 0 1 = cc in absurd (omega arith)
+small-is (is k) n e = go (ltb k indexLimit) refl e
   where
-    go : (u : Bool) → ltb k 18446744073709551616 ≡ u → cond u (is k) none ≡ is n → n < 18446744073709551616
-    go true f g = let z : k ≡ n = cc in omega (arith, ltb-true k 18446744073709551616 f)
+    go : (u : Bool) → ltb k indexLimit ≡ u → cond u (is k) none ≡ is n → (is k ≡ is n) × (n < indexLimit)
+    go true f g = let z : k ≡ n = cc in (g, omega (arith, ltb-true k indexLimit f))
     go false f g = let z : _≡_ {A = ℕ} 0 1 = cc in absurd (omega arith)
 
-pub number-below : (t : List ℕ) (n : ℕ) → number t ≡ is n → n < 18446744073709551616
+pub number-below : (t : List ℕ) (n : ℕ) → number t ≡ is n → n < indexLimit
 unfolding number
-number-below t n e = small-below (someDigits (unsigned t)) n e
+number-below t n e = small-is (someDigits (unsigned t)) n e .1
 
 pub first-byte : (s : List ℕ) (at byte size : ℕ) → ByteOf s at byte size → firstOr 0 (content false (drop at s)) ≡ byte
 unfolding firstOr

@@ -60,9 +60,13 @@ unfoldable pub someDigits : List ℕ → Number
 someDigits [] = none
 someDigits (b ∷ t) = digits 0 (b ∷ t)
 
+-- 2 to the 64th
+abbrev pub indexLimit : ℕ
+indexLimit = 18446744073709551616
+
 abbrev pub small : Number → Number
 small none = none
-small (is n) = cond (ltb n 18446744073709551616) (is n) none
+small (is n) = cond (ltb n indexLimit) (is n) none
 
 unfoldable pub number : List ℕ → Number
 number t = small (someDigits (unsigned t))

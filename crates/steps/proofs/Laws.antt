@@ -35,7 +35,7 @@ module _ (s : List ℕ) (at : ℕ) where
 
 -- Brackets.
 
-closed-some : (n : ℕ) (t : List ℕ) → 0 < n → closed n t ≡ element n t
+pub closed-some : (n : ℕ) (t : List ℕ) → 0 < n → closed n t ≡ element n t
 closed-some zero t h = absurd (omega arith)
 closed-some (suc n) t h = refl
 
@@ -137,9 +137,13 @@ parse-skip zero s = refl
 parse-skip (suc n) [] = refl
 parse-skip (suc n) (b ∷ s) = parse-skip n s
 
-parse-cons : (b : ℕ) (s : List ℕ) (x : Step) (n : ℕ) → next b s ≡ takes x n → parse 0 (b ∷ s) ≡ add x (parse 0 (drop n s))
+pub parse-cons : (b : ℕ) (s : List ℕ) (x : Step) (n : ℕ) → next b s ≡ takes x n → parse 0 (b ∷ s) ≡ add x (parse 0 (drop n s))
 unfolding parse
 parse-cons b s x n e = rw e (ap (add x) (parse-skip n s))
+
+pub parse-stop : (b : ℕ) (s : List ℕ) (code : ℕ) → next b s ≡ wrong code → parse 0 (b ∷ s) ≡ refused code
+unfolding parse
+parse-stop b s code e = rw e
 
 module _ (s : List ℕ) (at : ℕ) where
   pub parse-end : length s ≤ at → parse 0 (drop at s) ≡ steps []
@@ -147,8 +151,7 @@ module _ (s : List ℕ) (at : ℕ) where
   parse-end h = rw (drop-of-length-le s h)
 
   pub parse-wrong : (code : ℕ) → at < length s → next (getD s at 0) (drop (at + 1) s) ≡ wrong code → parse 0 (drop at s) ≡ refused code
-  unfolding parse
-  parse-wrong code h e = rw (drop-cons s at 0 h, ← add-one at, e)
+  parse-wrong code h e = rw (drop-cons s at 0 h) (parse-stop (getD s at 0) (drop (suc at) s) code (rw (add-one at) at e))
 
   pub parse-step : (x : Step) (n : ℕ) → at < length s → next (getD s at 0) (drop (at + 1) s) ≡ takes x n → parse 0 (drop at s) ≡ add x (parse 0 (drop (at + (n + 1)) s))
   parse-step x n h e =

@@ -6,7 +6,7 @@ use Prim.Native.Nat.{ℕ, _+_, _-_, _≤_, _<_}
 use native.Mathlib.Omega.{arith}
 use lib.ListN.{length, take, drop, getD, length-drop}
 use lib.Seq.{length-take-le}
-use Rattle.brackets.specs.Brackets.{content}
+use Rattle.brackets.specs.Brackets.{indexLimit, content}
 use Rattle.steps.specs.Path.{Step, Parsed, next, add, parse}
 use Rattle.writing.specs.Written.{Sizes, weight, total, counted, sizes}
 use Rattle.steps.specs.Path.Step.{named, indexed}
@@ -79,7 +79,7 @@ quoted-takes s at from len more e (f, g, h) =
     record { step = named (take len (content false (drop from s))); is = sym e; weighs = length-take-le len (content false (drop from s)) f; fewer = g; inside = h }
 
 pub index-takes : (s : List ℕ) (at value more : ℕ) → takes (indexed value) more ≡ next (getD s at 0) (drop (at + 1) s)
-    → (value < 18446744073709551616) × (at + 1 + more ≤ length s) → TakesOf s at 0 more
+    → (value < indexLimit) × (at + 1 + more ≤ length s) → TakesOf s at 0 more
 unfolding weight
 index-takes s at value more e (f, h) =
     record { step = indexed value; is = sym e; weighs = refl; fewer = omega arith; inside = h }

@@ -4,13 +4,13 @@ use Prim.Native.Nat.{_-_, _≤_, _<_}
 use native.Mathlib.Omega.{arith}
 use borrow.Author.Needs.{needs}
 use lib.ListN.{length, drop}
-use Rattle.brackets.specs.Brackets.{content, digits, small}
+use Rattle.brackets.specs.Brackets.{indexLimit, content, digits, small}
 use Rattle.brackets.proofs.Laws.{digits-low, digits-high, digits-more, digits-over, digits-end}
 use Rattle.brackets.proofs.digits_at.Statement.{statement}
 use Rattle.brackets.proofs.digits_at.Tie as tie
 
 abbrev Inv-loop : tie.InvT-loop
-Inv-loop path from at₀ value₀ at value = (small (digits 0 (content false (drop from path))) ≡ small (digits value (content false (drop at path)))) × (at ≤ length path) × (value < 18446744073709551616)
+Inv-loop path from at₀ value₀ at value = (small (digits 0 (content false (drop from path))) ≡ small (digits value (content false (drop at path)))) × (at ≤ length path) × (value < indexLimit)
 
 abbrev μ-loop : tie.MeasureT-loop
 μ-loop path from at₀ value₀ at value = length path - at
