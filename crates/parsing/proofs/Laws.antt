@@ -12,6 +12,7 @@ use Rattle.parsing.specs.Parsing.{leadingDot, stepsOf, lacking, answer, 
 use Rattle.writing.specs.Written.Sizes.{bad, of}
 use Rattle.part.specs.Part.{part}
 use Rattle.part.proofs.Laws.{part-whole}
+use Rattle.width.specs.Limits.{u32Max}
 use Rattle.chars.specs.Rfc3629.{Text, textUpTo}
 use Rattle.chars.proofs.Laws.{text-whole, text-all}
 use Rattle.texts.specs.Known.{Tells}
@@ -28,7 +29,7 @@ use Rattle.parsing.specs.Promises.{ParsePromise}
 
 -- THE WHOLE
 
-is-bad : (p : Parsed) (code : ℕ) → bad code ≡ sizes p → p ≡ refused code
+pub is-bad : (p : Parsed) (code : ℕ) → bad code ≡ sizes p → p ≡ refused code
 is-bad (refused d) code e = let z : code ≡ d = cc in ap refused (sym z)
 is-bad (steps xs) code e = let z : _≡_ {A = ℕ} 0 1 = cc in absurd (omega arith)
 
@@ -91,11 +92,11 @@ module _ (s names words : List ℕ) where
   pub room-for : (count sum : ℕ) → of count sum ≡ sizes (parse 0 s) → lacking (length names) (length words) count sum ≡ false → Room s names words
   room-for count sum f g =
       let o = is-of (parse 0 s) count sum f in
-      let p = neither (ltb (length words) (3 * count)) (ltb (length names) sum || ltb 4294967295 sum) g in
-      let q = neither (ltb (length names) sum) (ltb 4294967295 sum) (p .1) in
+      let p = neither (ltb (length words) (3 * count)) (ltb (length names) sum || ltb u32Max sum) g in
+      let q = neither (ltb (length names) sum) (ltb u32Max sum) (p .1) in
       let w : 3 * count ≤ length words = ltb-false (length words) (3 * count) (p .0) in
       let n : sum ≤ length names = ltb-false (length names) sum (q .0) in
-      let u : sum ≤ 4294967295 = ltb-false 4294967295 sum (q .1) in
+      let u : sum ≤ u32Max = ltb-false u32Max sum (q .1) in
       record {
         all = stepsIn (parse 0 s);
         is = o .0;
