@@ -1,19 +1,12 @@
 -- Laws of what brackets hold, at places of the list, as code goes by them. Assumes nothing.
-use mathlib.Core.Path.{_≡_, refl, sym, ap, _∙_}
-use mathlib.Core.Bool.{Bool, true, false, cond, _&&_}
-use mathlib.Core.List.{List, [], _∷_}
-use Prim.Native.Nat.{ℕ, zero, suc, _+_, _-_, _*_, _≤_, _<_}
-use native.Mathlib.Numerals.{add-one}
-use native.Mathlib.Omega.{arith}
-use borrow.Author.Tests.{ltb-true, leb-true, lt-ltb, le-ltb, lt-leb, le-leb, ne-eqb}
-use lib.Dec.{ltb, leb}
-use lib.ListN.{length, take, drop, getD, drop-of-length-le}
+use Rattle.rules.proofs.Prelude.{_≡_, refl, sym, ap, _∙_, Bool, true, false, cond, _&&_, List, [], _∷_, ℕ, zero, suc, _+_, _-_, _*_, _≤_, _<_, add-one}
+use Rattle.rules.proofs.Prelude.{arith, ltb-true, leb-true, lt-ltb, le-ltb, ne-eqb, ltb, leb, length, take, drop, getD, false-true}
+use borrow.Author.Tests.{lt-leb, le-leb}
+use lib.ListN.{drop-of-length-le}
 use lib.Seq.{drop-cons}
-use Rattle.rules.proofs.Laws.{false-true}
 use Rattle.brackets.specs.Brackets.{indexLimit, Number, oneMore, closes, content, firstOr, lastOr, sameQuotes, inQuotes, unquoted, digits, unsigned, someDigits, small, number}
 use Rattle.brackets.specs.Brackets.Number.{none, is}
 use Rattle.brackets.specs.Steps.{later, ByteOf, LookOf}
-use Rattle.brackets.specs.declared.Look.{Look}
 
 -- One byte of what brackets hold.
 

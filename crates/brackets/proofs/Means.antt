@@ -1,10 +1,10 @@
 -- The functions of Brackets.antt find what Meaning.antt says, and nothing else. Assumes nothing.
-use Rattle.rules.proofs.Prelude.{_≡_, refl, sym, ap, ap₂, _∙_, _↔_, Bool, true, false, cond, _&&_, _||_, List, [], _∷_, _++_, append-assoc, ℕ, zero, suc}
-use Rattle.rules.proofs.Prelude.{_+_, _-_, _*_, _≤_, _<_, arith, eqb, ltb, leb, ne-eqb, lt-ltb, ltb-true, leb-true, leb-false, length, length-append, take, drop, drop-append-add, false-true}
+use Rattle.rules.proofs.Prelude.{_≡_, refl, ap, _∙_, _↔_, Bool, true, false, cond, _&&_, _||_, List, [], _∷_, _++_, append-assoc, ℕ, zero, suc, _+_, _-_}
+use Rattle.rules.proofs.Prelude.{_*_, _<_, arith, eqb, leb, ne-eqb, lt-ltb, leb-true, length, length-append, take, drop, drop-append-add, false-true}
 use mathlib.Core.List.{append-nil}
 use lib.Seq.{take-append-seam}
 use borrow.Author.Tests.{eqb-true, eqb-false, le-leb}
-use Rattle.brackets.specs.Brackets.{Number, indexLimit, oneMore, closes, content, firstOr, lastOr, sameQuotes, quoted, unquoted, digits, unsigned, someDigits, small, number}
+use Rattle.brackets.specs.Brackets.{indexLimit, oneMore, closes, content, firstOr, lastOr, sameQuotes, quoted, unquoted, digits, unsigned, someDigits, number}
 use Rattle.brackets.specs.Brackets.Number.{none, is}
 use Rattle.brackets.proofs.Laws.{small-is}
 use Rattle.brackets.specs.Meaning.{Escapes, Shut, Quote, Quoted, Digit, Decimal, Numeral}

@@ -1,8 +1,8 @@
 -- A path is accepted, with its steps, exactly when document 02, i), says so, and refused with a number exactly when that refusal is due
 -- (specs/Meaning.antt); and what the call answers, by its promise. Assumes nothing.
-use Rattle.rules.proofs.Prelude.{_≡_, refl, sym, ap, _∙_, _↔_, Bool, true, false, cond, _||_, List, [], _∷_, ℕ, _*_, _<_, _≤_, arith}
-use Rattle.rules.proofs.Prelude.{eqb, ltb, ne-eqb, lt-ltb, le-ltb, ltb-true, ltb-false, length, false-true}
-use borrow.Author.Tests.{eqb-true, eqb-false}
+use Rattle.rules.proofs.Prelude.{_≡_, refl, sym, ap, _∙_, _↔_, Bool, true, false, cond, _||_, List, [], _∷_, ℕ, _*_, arith, ltb, ltb-true, ltb-false}
+use Rattle.rules.proofs.Prelude.{length, false-true}
+use borrow.Author.Tests.{eqb-true}
 use Rattle.width.specs.Limits.{u32Max}
 use Rattle.chars.specs.Rfc3629.{Text, textUpTo}
 use Rattle.chars.proofs.Laws.{text-whole, text-all}

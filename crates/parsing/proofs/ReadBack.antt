@@ -1,6 +1,6 @@
 -- What is written is the steps: they stand in the two buffers row by row, and are read back exactly. Assumes nothing.
-use Rattle.rules.proofs.Prelude.{_≡_, refl, sym, ap, ap₂, _∙_, List, [], _∷_, _++_, append-assoc, ℕ, suc, _+_, _-_, _*_, arith, length, length-append, take, drop, getD}
-use Rattle.rules.proofs.Prelude.{getD-append-add, drop-drop}
+use Rattle.rules.proofs.Prelude.{_≡_, refl, sym, ap, ap₂, List, [], _∷_, _++_, append-assoc, ℕ, suc, _+_, _-_, _*_, arith, length, length-append, drop}
+use Rattle.rules.proofs.Prelude.{getD, getD-append-add, drop-drop}
 use lib.Seq.{take-append-seam, drop-append-seam, getD-append-seam, getD-drop}
 use Rattle.part.specs.Part.{part}
 use Rattle.steps.specs.Path.{Step}
@@ -76,7 +76,9 @@ read-laid names words row [] l = refl
 read-laid names words row (x ∷ xs) (h, l) =
     let n : 1 + counted xs ≡ suc (counted xs) = omega arith in
     let first : row + 0 ≡ row = omega arith in
-    let head : x ≡ stepBy names (getD (drop row words) 0 0) (getD (drop row words) 1 0) (getD (drop row words) 2 0) = rw (getD-drop row words 0 0, getD-drop row words 1 0, getD-drop row words 2 0, first) (h .is) in
+    let left = drop row words in
+    let head : x ≡ stepBy names (getD left 0 0) (getD left 1 0) (getD left 2 0) =
+    rw (getD-drop row words 0 0, getD-drop row words 1 0, getD-drop row words 2 0, first) (h .is) in
     rw n (ap₂ _∷_ (sym head) (rw (drop-drop 3 row words) (read-laid names words (row + 3) xs l)))
 
 -- AND ARE READ BACK exactly

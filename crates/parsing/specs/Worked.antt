@@ -112,8 +112,10 @@ abbrev path : List ℕ
 path = 0x61 ∷ 0x2E ∷ 0x62 ∷ 0x5B ∷ 0x34 ∷ 0x32 ∷ 0x39 ∷ 0x34 ∷ 0x39 ∷ 0x36 ∷ 0x37 ∷ 0x32 ∷ 0x39 ∷ 0x38 ∷ 0x5D ∷ []
 
 abbrev pub calls : List (Asked × Left)
-calls =
-    (ask path (7 ∷ 8 ∷ []) (9 ∷ 9 ∷ 9 ∷ 9 ∷ 9 ∷ 9 ∷ 9 ∷ 9 ∷ 9 ∷ []), left (of 3 2) (0x61 ∷ 0x62 ∷ []) (0 ∷ 0 ∷ 1 ∷ 0 ∷ 1 ∷ 2 ∷ 1 ∷ 2 ∷ 1 ∷ []))  -- just enough
+calls = (
+  ask path (7 ∷ 8 ∷ []) (9 ∷ 9 ∷ 9 ∷ 9 ∷ 9 ∷ 9 ∷ 9 ∷ 9 ∷ 9 ∷ []),
+  left (of 3 2) (0x61 ∷ 0x62 ∷ []) (0 ∷ 0 ∷ 1 ∷ 0 ∷ 1 ∷ 2 ∷ 1 ∷ 2 ∷ 1 ∷ []),
+)  -- just enough
     ∷ (
       ask path (7 ∷ 8 ∷ 6 ∷ []) (9 ∷ 9 ∷ 9 ∷ 9 ∷ 9 ∷ 9 ∷ 9 ∷ 9 ∷ 9 ∷ 5 ∷ []),
       left (of 3 2) (0x61 ∷ 0x62 ∷ 6 ∷ []) (0 ∷ 0 ∷ 1 ∷ 0 ∷ 1 ∷ 2 ∷ 1 ∷ 2 ∷ 1 ∷ 5 ∷ []),

@@ -1,13 +1,8 @@
 -- Laws of steps, at places of the list, as code goes by them. Assumes nothing.
-use mathlib.Core.Path.{_≡_, refl, sym, ap, _∙_}
-use mathlib.Core.Bool.{Bool, true, false, cond}
-use mathlib.Core.List.{List, [], _∷_}
-use Prim.Native.Nat.{ℕ, zero, suc, _+_, _-_, _≤_, _<_}
-use native.Mathlib.Numerals.{add-one}
-use native.Mathlib.Omega.{arith}
-use borrow.Author.Tests.{ne-eqb}
-use lib.ListN.{length, take, drop, getD, drop-of-length-le}
-use lib.Seq.{drop-cons, drop-drop}
+use Rattle.rules.proofs.Prelude.{_≡_, refl, sym, ap, _∙_, Bool, true, false, cond, List, [], _∷_, ℕ, zero, suc, _+_, _-_, _≤_, _<_, add-one, arith}
+use Rattle.rules.proofs.Prelude.{ne-eqb, length, take, drop, getD, drop-drop}
+use lib.ListN.{drop-of-length-le}
+use lib.Seq.{drop-cons}
 use Rattle.brackets.specs.Brackets.{closes, content, inQuotes, quoted, unquoted, number}
 use Rattle.steps.specs.Path.{Step, Next, ends, plain, numbered, element, closed, bracket, dotted, next, add, parse}
 use Rattle.steps.specs.Path.Step.{named}

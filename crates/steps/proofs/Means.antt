@@ -1,14 +1,14 @@
 -- A path is the steps that it spells, and is refused exactly where something else is met first (specs/Meaning.antt). Assumes nothing.
-use Rattle.rules.proofs.Prelude.{_≡_, refl, sym, ap, _∙_, _↔_, Bool, true, false, cond, _||_, List, [], _∷_, _++_, ℕ, zero, suc, _+_, _<_, arith}
-use Rattle.rules.proofs.Prelude.{eqb, ne-eqb, length, take, drop, take-append-drop, false-true}
+use Rattle.rules.proofs.Prelude.{_≡_, refl, sym, ap, _∙_, _↔_, Bool, true, false, cond, _||_, List, [], _∷_, _++_, ℕ, zero, suc, arith, eqb, ne-eqb}
+use Rattle.rules.proofs.Prelude.{length, take, drop, take-append-drop, false-true}
 use lib.Seq.{take-append-seam, drop-append-seam}
-use borrow.Author.Tests.{eqb-true, eqb-false}
+use borrow.Author.Tests.{eqb-true}
 use Rattle.brackets.specs.Brackets.{Number, closes, content, quoted, unquoted, number}
 use Rattle.brackets.specs.Brackets.Number.{none, is}
 use Rattle.brackets.specs.Meaning.{Shut, Quoted, Numeral}
 use Rattle.brackets.proofs.Means.{shut-content, shut-closes, shut-found, open-found, shut-rest, quoted-so, quoted-back, numerals, numeral-unquoted}
 use Rattle.steps.specs.Path.{Step, Next, Parsed, ends, plain, numbered, element, closed, bracket, dotted, next, add, follow, parse}
-use Rattle.steps.specs.Path.Step.{named, indexed}
+use Rattle.steps.specs.Path.Step.{named}
 use Rattle.steps.specs.Path.Next.{wrong, takes}
 use Rattle.steps.specs.Path.Parsed.{refused, steps}
 use Rattle.steps.specs.Meaning.{Ending, Plain, Ends, Name, Holds, Stands, Spells, Wrong, Refused}

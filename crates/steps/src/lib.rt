@@ -2,7 +2,7 @@
 ghost use mathlib.Core.Path.{_≡_};
 ghost use mathlib.Core.Bool.{false};
 ghost use Prim.Native.Nat.{_+_, _≤_, _<_};
-ghost use lib.ListN.{length, take, drop};
+ghost use lib.ListN.{length, drop};
 ghost use Rattle.brackets.specs.Brackets.{content, digits, number};
 ghost use Rattle.steps.specs.Path.{ends, plain, numbered, bracket, dotted};
 ghost use Rattle.steps.specs.Steps.{readScan, Bounded, ScanOf};

@@ -1,10 +1,5 @@
 -- How many steps a path has, and how long their names are. Assumes nothing.
-use mathlib.Core.Path.{_≡_, refl, sym, ap₂, _∙_}
-use mathlib.Core.Bool.{false}
-use mathlib.Core.List.{List}
-use Prim.Native.Nat.{ℕ, _+_, _-_, _≤_, _<_}
-use native.Mathlib.Omega.{arith}
-use lib.ListN.{length, take, drop, getD, length-drop}
+use Rattle.rules.proofs.Prelude.{_≡_, refl, sym, ap₂, _∙_, false, List, ℕ, _+_, _≤_, _<_, arith, length, take, drop, getD, length-drop}
 use lib.Seq.{length-take-le}
 use Rattle.brackets.specs.Brackets.{indexLimit, content}
 use Rattle.steps.specs.Path.{Step, Parsed, next, add, parse}

@@ -1,5 +1,5 @@
 -- `brackets::digits_at` meets its contract: the loop keeps that the number so far and what is left say what the whole does. Assumes nothing.
-use Rattle.rules.proofs.Prelude.{_≡_, refl, sym, ap, _∙_, false, ℕ, _-_, _≤_, _<_, length, drop, arith, needs}
+use Rattle.rules.proofs.Prelude.{_≡_, refl, sym, ap, _∙_, false, _-_, _≤_, _<_, length, drop, arith, needs}
 use Rattle.brackets.specs.Brackets.{indexLimit, content, digits, small}
 use Rattle.brackets.proofs.Laws.{digits-low, digits-high, digits-more, digits-over, digits-end}
 use Rattle.brackets.proofs.digits_at.Statement.{statement}

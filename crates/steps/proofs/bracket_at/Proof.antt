@@ -1,5 +1,5 @@
 -- `steps::bracket_at` meets its contract: what the pass over the brackets has seen decides. Assumes nothing.
-use Rattle.rules.proofs.Prelude.{sym, _∙_, _+_, arith, needs}
+use Rattle.rules.proofs.Prelude.{sym, _∙_, arith, needs}
 use Rattle.brackets.proofs.Laws.{after-byte, two-quotes}
 use Rattle.steps.proofs.Laws.{bracket-open, look-none, look-unquoted, look-quoted}
 use Rattle.steps.proofs.bracket_at.Statement.{statement}

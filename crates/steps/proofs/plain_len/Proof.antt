@@ -1,5 +1,5 @@
 -- `steps::plain_len` meets its contract: the loop keeps that no byte before `at` ends the name. Assumes nothing.
-use Rattle.rules.proofs.Prelude.{_≡_, sym, _∙_, ℕ, _+_, _-_, _≤_, length, drop, arith}
+use Rattle.rules.proofs.Prelude.{_≡_, sym, _∙_, _+_, _-_, _≤_, length, drop, arith}
 use Rattle.steps.specs.Path.{plain}
 use Rattle.steps.proofs.Laws.{plain-end, plain-stop, plain-more}
 use Rattle.steps.proofs.plain_len.Statement.{statement}

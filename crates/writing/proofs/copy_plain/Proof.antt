@@ -1,5 +1,5 @@
 -- `writing::copy_plain` meets its contract: the loop keeps that what is left makes the same of the names as the whole. Assumes nothing.
-use Rattle.rules.proofs.Prelude.{_≡_, refl, sym, _∙_, ℕ, _+_, _-_, _≤_, length, take, drop, sets, length-set, arith}
+use Rattle.rules.proofs.Prelude.{_≡_, refl, sym, _∙_, _+_, _-_, _≤_, length, take, drop, sets, length-set, arith}
 use Rattle.writing.proofs.Writes.{copy-end, plain-turn}
 use Rattle.writing.proofs.copy_plain.Statement.{statement}
 use Rattle.writing.proofs.copy_plain.Tie as tie
