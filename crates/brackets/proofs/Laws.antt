@@ -1,18 +1,12 @@
 -- Laws of what brackets hold, at places of the list, as code goes by them. Assumes nothing.
-use mathlib.Core.Path.{_≡_, refl, sym, _∙_}
-use mathlib.Core.Bool.{Bool, true, false, cond, _&&_}
-use mathlib.Core.List.{List, [], _∷_}
-use Prim.Native.Nat.{ℕ, zero, suc, _+_, _-_, _*_, _≤_, _<_}
-use native.Mathlib.Numerals.{add-one}
-use native.Mathlib.Omega.{arith}
-use borrow.Author.Tests.{ltb-true, lt-ltb, le-ltb, lt-leb, le-leb, ne-eqb}
-use lib.Dec.{ltb, leb}
-use lib.ListN.{length, take, drop, getD, drop-of-length-le}
+use Rattle.rules.proofs.Prelude.{_≡_, refl, sym, ap, _∙_, Bool, true, false, cond, _&&_, List, [], _∷_, ℕ, zero, suc, _+_, _-_, _*_, _≤_, _<_, add-one}
+use Rattle.rules.proofs.Prelude.{arith, ltb-true, leb-true, lt-ltb, le-ltb, ne-eqb, ltb, leb, length, take, drop, getD, false-true}
+use borrow.Author.Tests.{lt-leb, le-leb}
+use lib.ListN.{drop-of-length-le}
 use lib.Seq.{drop-cons}
-use Rattle.brackets.specs.Brackets.{Number, oneMore, closes, content, firstOr, lastOr, unquoted, digits, unsigned, someDigits, small, number}
+use Rattle.brackets.specs.Brackets.{indexLimit, Number, oneMore, closes, content, firstOr, lastOr, sameQuotes, inQuotes, unquoted, digits, unsigned, someDigits, small, number}
 use Rattle.brackets.specs.Brackets.Number.{none, is}
 use Rattle.brackets.specs.Steps.{later, ByteOf, LookOf}
-use Rattle.brackets.specs.declared.Look.{Look}
 
 -- One byte of what brackets hold.
 
@@ -100,49 +94,51 @@ survey-start s from h =
     let e : from - from ≡ 0 = omega arith in
     record { closes-is = rw (e, later-none (closes false (drop from s))); count-is = omega arith; last-is = refl; come = omega arith; inside = h }
 
-pub survey-turn : (s : List ℕ) (from at count last byte size : ℕ) → Surveyed s from at count last → ByteOf s at byte size → Surveyed s from (at + size) (count + 1) byte
-unfolding lastOr
-survey-turn s from at count last byte size r b =
-    let e : at + size - from ≡ (at - from) + size = omega (arith, r .come) in
-    record {
-      closes-is = r .closes-is ∙ rw (b .closes-is, e) (later-later (at - from) size (closes false (drop (at + size) s)));
-      count-is = r .count-is ∙ rw (b .content-is) (omega arith);
-      last-is = r .last-is ∙ rw (b .content-is);
-      come = omega (arith, r .come, b .some);
-      inside = b .inside;
-    }
+module _ {s : List ℕ} {from at count last : ℕ} (r : Surveyed s from at count last) where
+  pub survey-turn : {byte size : ℕ} → ByteOf s at byte size → Surveyed s from (at + size) (count + 1) byte
+  unfolding lastOr
+  survey-turn {size = size} b =
+      let e : at + size - from ≡ (at - from) + size = omega (arith, r .come) in
+      record {
+        closes-is = r .closes-is ∙ rw (b .closes-is, e) (later-later (at - from) size (closes false (drop (at + size) s)));
+        count-is = r .count-is ∙ rw (b .content-is) (omega arith);
+        last-is = r .last-is ∙ rw (b .content-is);
+        come = omega (arith, r .come, b .some);
+        inside = b .inside;
+      }
 
-pub survey-never : (s : List ℕ) (from at count last : ℕ) → Surveyed s from at count last → (content false (drop at s) ≡ []) × (closes false (drop at s) ≡ 0)
-    → LookOf s from (record { size = 0; count = count; last = last })
-unfolding lastOr
-survey-never s from at count last r (e, f) =
-    record {
-      size-is = sym (r .closes-is ∙ rw (f, later-zero (at - from)));
-      count-is = sym (r .count-is ∙ rw e (omega arith));
-      last-is = sym (r .last-is ∙ rw e);
-      inside = omega (arith, r .come, r .inside);
-      shut = λ h. absurd (omega arith);
-    }
+  pub survey-never : (content false (drop at s) ≡ []) × (closes false (drop at s) ≡ 0)
+      → LookOf s from (record { size = 0; count = count; last = last })
+  unfolding lastOr
+  survey-never (e, f) =
+      record {
+        size-is = sym (r .closes-is ∙ rw (f, later-zero (at - from)));
+        count-is = sym (r .count-is ∙ rw e (omega arith));
+        last-is = sym (r .last-is ∙ rw e);
+        inside = omega (arith, r .come, r .inside);
+        shut = λ h. absurd (omega arith);
+      }
 
-pub survey-close : (s : List ℕ) (from at count last : ℕ) → Surveyed s from at count last → (content false (drop at s) ≡ []) × (closes false (drop at s) ≡ 1) × (at < length s)
-    → LookOf s from (record { size = at + 1 - from; count = count; last = last })
-unfolding lastOr
-survey-close s from at count last r (e, f, g) =
-    record {
-      size-is = let e : closes false (drop from s) ≡ (at - from) + 1 = r .closes-is ∙ rw f (later-some (at - from) 1 (omega arith)) in omega (arith, r .come, e);
-      count-is = sym (r .count-is ∙ rw e (omega arith));
-      last-is = sym (r .last-is ∙ rw e);
-      inside = omega (arith, r .come);
-      shut = λ h. omega (arith, r .come);
-    }
+  pub survey-close : (content false (drop at s) ≡ []) × (closes false (drop at s) ≡ 1) × (at < length s)
+      → LookOf s from (record { size = at + 1 - from; count = count; last = last })
+  unfolding lastOr
+  survey-close (e, f, g) =
+      let k : closes false (drop from s) ≡ (at - from) + 1 = r .closes-is ∙ rw f (later-some (at - from) 1 (omega arith)) in
+      record {
+        size-is = omega (arith, r .come, k);
+        count-is = sym (r .count-is ∙ rw e (omega arith));
+        last-is = sym (r .last-is ∙ rw e);
+        inside = omega (arith, r .come);
+        shut = λ h. omega (arith, r .come);
+      }
 
 -- A number. Once it is too large it stays so.
 
 pub data Large : Number → Type 0 where
   no : Large none
-  big : {n : ℕ} → 18446744073709551616 ≤ n → Large (is n)
+  big : {n : ℕ} → indexLimit ≤ n → Large (is n)
 
-pub digits-large : (n : ℕ) (t : List ℕ) → 18446744073709551616 ≤ n → Large (digits n t)
+pub digits-large : (n : ℕ) (t : List ℕ) → indexLimit ≤ n → Large (digits n t)
 unfolding digits
 digits-large n [] h = big h
 digits-large n (b ∷ t) h = go (leb 48 b && leb b 57) (digits-large (10 * n + (b - 48)) t (omega arith))
@@ -153,9 +149,9 @@ digits-large n (b ∷ t) h = go (leb 48 b && leb b 57) (digits-large (10 * n + (
 
 pub small-large : {x : Number} → Large x → small x ≡ none
 small-large no = refl
-small-large (big {n = n} h) = rw (le-ltb n 18446744073709551616 h)
+small-large (big {n = n} h) = rw (le-ltb n indexLimit h)
 
-module _ (s : List ℕ) (at value byte size : ℕ) (b : ByteOf s at byte size) where
+module _ {s : List ℕ} {at byte size : ℕ} (b : ByteOf s at byte size) (value : ℕ) where
   pub digits-low : byte < 48 → small (digits value (content false (drop at s))) ≡ none
   unfolding digits
   digits-low h = rw (b .content-is, lt-leb 48 byte h)
@@ -164,16 +160,17 @@ module _ (s : List ℕ) (at value byte size : ℕ) (b : ByteOf s at byte size) w
   unfolding digits
   digits-high h k = rw (b .content-is, le-leb 48 byte h, lt-leb byte 57 k)
 
-  pub digits-more : 48 ≤ byte → byte ≤ 57 → digits value (content false (drop at s)) ≡ digits (10 * value + (byte - 48)) (content false (drop (at + size) s))
-  unfolding digits
-  digits-more h k = rw (b .content-is, le-leb 48 byte h, le-leb byte 57 k)
+  module _ (low : 48 ≤ byte) (high : byte ≤ 57) where
+    pub digits-more : digits value (content false (drop at s)) ≡ digits (10 * value + (byte - 48)) (content false (drop (at + size) s))
+    unfolding digits
+    digits-more = rw (b .content-is, le-leb 48 byte low, le-leb byte 57 high)
 
-  pub digits-over : 48 ≤ byte → byte ≤ 57 → 18446744073709551616 ≤ 10 * value + (byte - 48) → small (digits value (content false (drop at s))) ≡ none
-  digits-over h k o = rw (digits-more h k) (small-large (digits-large (10 * value + (byte - 48)) (content false (drop (at + size) s)) o))
+    pub digits-over : indexLimit ≤ 10 * value + (byte - 48) → small (digits value (content false (drop at s))) ≡ none
+    digits-over o = rw digits-more (small-large (digits-large (10 * value + (byte - 48)) (content false (drop (at + size) s)) o))
 
-pub digits-end : (s : List ℕ) (at value : ℕ) → content false (drop at s) ≡ [] → value < 18446744073709551616 → is value ≡ small (digits value (content false (drop at s)))
+pub digits-end : (s : List ℕ) (at value : ℕ) → content false (drop at s) ≡ [] → value < indexLimit → is value ≡ small (digits value (content false (drop at s)))
 unfolding digits
-digits-end s at value e h = rw (e, lt-ltb value 18446744073709551616 h)
+digits-end s at value e h = rw (e, lt-ltb value indexLimit h)
 
 -- at least one digit, after a plus or none
 pub some-none : (s : List ℕ) (at : ℕ) → content false (drop at s) ≡ [] → small (someDigits (content false (drop at s))) ≡ none
@@ -184,7 +181,7 @@ pub number-none : (s : List ℕ) (at : ℕ) → content false (drop at s) ≡ []
 unfolding number unsigned someDigits
 number-none s at e = rw e
 
-module _ (s : List ℕ) (at byte size : ℕ) (b : ByteOf s at byte size) where
+module _ {s : List ℕ} {at byte size : ℕ} (b : ByteOf s at byte size) where
   pub some-byte : someDigits (content false (drop at s)) ≡ digits 0 (content false (drop at s))
   unfolding someDigits
   some-byte = rw (b .content-is)
@@ -198,26 +195,36 @@ module _ (s : List ℕ) (at byte size : ℕ) (b : ByteOf s at byte size) where
   number-plain e = rw (b .content-is, ne-eqb byte 43 e)
 
 -- it is below 2 to the 64th
-small-below : (x : Number) (n : ℕ) → small x ≡ is n → n < 18446744073709551616
-small-below none n e = let z : _≡_ {A = ℕ} 0 1 = cc in absurd (omega arith)
-small-below (is k) n e = go (ltb k 18446744073709551616) refl e
+pub small-is : (x : Number) (n : ℕ) → small x ≡ is n → (x ≡ is n) × (n < indexLimit)
+small-is none n e = let z : _≡_ {A = ℕ} 0 1 = cc in absurd (omega arith)
+small-is (is k) n e = go (ltb k indexLimit) refl e
   where
-    go : (u : Bool) → ltb k 18446744073709551616 ≡ u → cond u (is k) none ≡ is n → n < 18446744073709551616
-    go true f g = let z : k ≡ n = cc in omega (arith, ltb-true k 18446744073709551616 f)
+    go : (u : Bool) → ltb k indexLimit ≡ u → cond u (is k) none ≡ is n → (is k ≡ is n) × (n < indexLimit)
+    go true f g = let z : k ≡ n = cc in (g, omega (arith, ltb-true k indexLimit f))
     go false f g = let z : _≡_ {A = ℕ} 0 1 = cc in absurd (omega arith)
 
-pub number-below : (t : List ℕ) (n : ℕ) → number t ≡ is n → n < 18446744073709551616
+pub number-below : (t : List ℕ) (n : ℕ) → number t ≡ is n → n < indexLimit
 unfolding number
-number-below t n e = small-below (someDigits (unsigned t)) n e
+number-below t n e = small-is (someDigits (unsigned t)) n e .1
 
-pub first-byte : (s : List ℕ) (at byte size : ℕ) → ByteOf s at byte size → firstOr 0 (content false (drop at s)) ≡ byte
-unfolding firstOr
-first-byte s at byte size b = rw (b .content-is)
+-- What brackets hold, by its first byte.
 
-pub unquoted-byte : (s : List ℕ) (at byte size n : ℕ) → ByteOf s at byte size → n ≡ length (content false (drop at s)) → unquoted (content false (drop at s)) ≡ take (n - 2) (content false (drop (at + size) s))
-unquoted-byte s at byte size n b e = rw (e, b .content-is)
+module _ {s : List ℕ} {at byte size : ℕ} (b : ByteOf s at byte size) where
+  pub first-byte : firstOr 0 (content false (drop at s)) ≡ byte
+  unfolding firstOr
+  first-byte = rw (b .content-is)
 
-pub after-byte : (s : List ℕ) (at byte size n : ℕ) → ByteOf s at byte size → n ≡ length (content false (drop at s)) → n - 2 ≤ length (content false (drop (at + size) s))
-after-byte s at byte size n b e =
-    let k : length (content false (drop at s)) ≡ suc (length (content false (drop (at + size) s))) = rw (b .content-is) in
-    omega (arith, e, k)
+  module _ {n : ℕ} (e : n ≡ length (content false (drop at s))) where
+    pub unquoted-byte : unquoted (content false (drop at s)) ≡ take (n - 2) (content false (drop (at + size) s))
+    unquoted-byte = rw (e, b .content-is)
+
+    pub after-byte : n - 2 ≤ length (content false (drop (at + size) s))
+    after-byte = omega (arith, e, ap length (b .content-is))
+
+-- a name in quotes has two bytes at least
+pub two-quotes : (n a b : ℕ) → inQuotes n a b ≡ true → 2 ≤ n
+two-quotes n a b = go (leb 2 n) refl
+  where
+    go : (u : Bool) → leb 2 n ≡ u → (u && sameQuotes a b) ≡ true → 2 ≤ n
+    go true e f = leb-true 2 n e
+    go false e f = absurd (false-true f)

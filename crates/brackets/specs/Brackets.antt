@@ -36,8 +36,11 @@ lastOr d (b ∷ s) = lastOr b s
 abbrev pub sameQuotes : ℕ → ℕ → Bool
 sameQuotes a b = eqb a b && (eqb a 39 || eqb a 34)
 
+abbrev pub inQuotes : (count first last : ℕ) → Bool
+inQuotes count first last = leb 2 count && sameQuotes first last
+
 abbrev pub quoted : List ℕ → Bool
-quoted t = leb 2 (length t) && sameQuotes (firstOr 0 t) (lastOr 0 t)
+quoted t = inQuotes (length t) (firstOr 0 t) (lastOr 0 t)
 
 abbrev pub unquoted : List ℕ → List ℕ
 unquoted t = take (length t - 2) (drop 1 t)
@@ -60,9 +63,13 @@ unfoldable pub someDigits : List ℕ → Number
 someDigits [] = none
 someDigits (b ∷ t) = digits 0 (b ∷ t)
 
+-- 2 to the 64th
+abbrev pub indexLimit : ℕ
+indexLimit = 18446744073709551616
+
 abbrev pub small : Number → Number
 small none = none
-small (is n) = cond (ltb n 18446744073709551616) (is n) none
+small (is n) = cond (ltb n indexLimit) (is n) none
 
 unfoldable pub number : List ℕ → Number
 number t = small (someDigits (unsigned t))

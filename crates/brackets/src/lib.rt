@@ -3,7 +3,7 @@ ghost use mathlib.Core.Path.{_≡_};
 ghost use mathlib.Core.Bool.{false};
 ghost use Prim.Native.Nat.{_+_, _≤_, _<_};
 ghost use lib.ListN.{length, drop};
-ghost use Rattle.brackets.specs.Brackets.{content, small, digits, someDigits, number, sameQuotes};
+ghost use Rattle.brackets.specs.Brackets.{content, small, digits, someDigits, number, inQuotes};
 ghost use Rattle.brackets.specs.Steps.{PieceOf, LookOf, numberOf};
 
 // One byte of what brackets hold, and how many bytes of the path it takes: two with a backslash.
@@ -144,10 +144,13 @@ pub fn number_at(path: &[u8], from: usize) -> Digits
     }
 }
 
-// Whether the first and the last of what brackets hold are one quote.
-pub fn is_quote(first: u8, last: u8) -> bool
-    ensures { λ r. ⌜ r ≡ sameQuotes first last ⌝ }
+// Whether so many bytes, of which these are the first and the last, are a name in quotes.
+pub fn is_quoted(count: usize, first: u8, last: u8) -> bool
+    ensures { λ r. ⌜ r ≡ inQuotes count first last ⌝ }
 {
+    if count < 2 {
+        return false;
+    }
     if first != last {
         return false;
     }

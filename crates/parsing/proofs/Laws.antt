@@ -1,23 +1,16 @@
 -- What the whole call answers and leaves. Assumes nothing.
-use mathlib.Core.Path.{_≡_, refl, sym, ap, ap₂, _∙_}
-use mathlib.Core.Bool.{Bool, true, false, _||_}
-use mathlib.Core.List.{List, [], _∷_, _++_}
-use Prim.Native.Nat.{ℕ, _+_, _-_, _*_, _≤_, _<_}
-use native.Mathlib.Omega.{arith}
-use lib.ListN.{length, drop, getD, length-append}
-use lib.Seq.{sets, sets-eq}
-use Rattle.steps.specs.Path.{Step, Parsed, parse}
-use Rattle.writing.specs.Written.{textOf, weight, rowOf, namesOf, wordsOf, counted, total, sizes}
-use Rattle.parsing.specs.Parsing.{leadingDot, stepsOf, lacking, answer, namesAfter, wordsAfter}
+use Rattle.rules.proofs.Prelude.{_≡_, refl, sym, ap, ap₂, _∙_, Bool, true, false, _||_, List, [], _∷_, _++_, ℕ, _+_, _*_, _≤_, _<_, arith, length, drop}
+use Rattle.rules.proofs.Prelude.{getD, sets, sets-eq, lt-ltb, le-ltb, ltb-true, ltb-false, eqb, ltb}
+use Rattle.steps.specs.Path.{Parsed, parse}
+use Rattle.writing.specs.Written.{namesOf, wordsOf, counted, total, sizes}
+use Rattle.parsing.specs.Parsing.{leadingDot, stepsOf, lacking, answer}
 use Rattle.writing.specs.Written.Sizes.{bad, of}
 use Rattle.part.specs.Part.{part}
 use Rattle.part.proofs.Laws.{part-whole}
+use Rattle.width.specs.Limits.{u32Max}
 use Rattle.chars.specs.Rfc3629.{Text, textUpTo}
 use Rattle.chars.proofs.Laws.{text-whole, text-all}
 use Rattle.texts.specs.Known.{Tells}
-use borrow.Author.Tests.{lt-ltb, le-ltb, ltb-true, ltb-false}
-use lib.Dec.{eqb, ltb}
-use Rattle.steps.specs.Path.Step.{named, indexed}
 use Rattle.steps.specs.Path.Parsed.{refused, steps}
 use Rattle.writing.specs.Steps.{Room, stepsIn}
 use Rattle.writing.proofs.Laws.{names-length, words-length}
@@ -91,11 +84,11 @@ module _ (s names words : List ℕ) where
   pub room-for : (count sum : ℕ) → of count sum ≡ sizes (parse 0 s) → lacking (length names) (length words) count sum ≡ false → Room s names words
   room-for count sum f g =
       let o = is-of (parse 0 s) count sum f in
-      let p = neither (ltb (length words) (3 * count)) (ltb (length names) sum || ltb 4294967295 sum) g in
-      let q = neither (ltb (length names) sum) (ltb 4294967295 sum) (p .1) in
+      let p = neither (ltb (length words) (3 * count)) (ltb (length names) sum || ltb u32Max sum) g in
+      let q = neither (ltb (length names) sum) (ltb u32Max sum) (p .1) in
       let w : 3 * count ≤ length words = ltb-false (length words) (3 * count) (p .0) in
       let n : sum ≤ length names = ltb-false (length names) sum (q .0) in
-      let u : sum ≤ 4294967295 = ltb-false 4294967295 sum (q .1) in
+      let u : sum ≤ u32Max = ltb-false u32Max sum (q .1) in
       record {
         all = stepsIn (parse 0 s);
         is = o .0;

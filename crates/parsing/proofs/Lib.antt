@@ -1,3 +1,5 @@
 pub mod Laws
 pub mod ReadBack
+pub mod Means
+pub mod Pinned
 pub mod Worked

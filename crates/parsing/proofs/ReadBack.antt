@@ -1,6 +1,6 @@
 -- What is written is the steps: they stand in the two buffers row by row, and are read back exactly. Assumes nothing.
-use Rattle.rules.proofs.Prelude.{_≡_, refl, sym, ap, ap₂, _∙_, List, [], _∷_, _++_, append-assoc, ℕ, suc, _+_, _-_, _*_, arith, length, length-append, take, drop, getD}
-use Rattle.rules.proofs.Prelude.{getD-append-add}
+use Rattle.rules.proofs.Prelude.{_≡_, refl, sym, ap, ap₂, List, [], _∷_, _++_, append-assoc, ℕ, suc, _+_, _-_, _*_, arith, length, length-append, drop}
+use Rattle.rules.proofs.Prelude.{getD, getD-append-add}
 use lib.Seq.{take-append-seam, drop-append-seam, getD-append-seam}
 use Rattle.part.specs.Part.{part}
 use Rattle.steps.specs.Path.{Step}

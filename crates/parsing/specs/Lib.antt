@@ -1,4 +1,6 @@
 pub mod Parsing
+pub mod Meaning
 pub mod Answers
 pub mod Promises
 pub mod ReadBack
+pub mod Worked

@@ -1,9 +1,10 @@
 -- The whole answer to a path, and both buffers after it (document 02, i). Assumes nothing.
 use mathlib.Core.Bool.{Bool, false, cond, _||_}
 use mathlib.Core.List.{List, [], _∷_, _++_}
-use Prim.Native.Nat.{ℕ, _+_, _-_, _*_}
+use Prim.Native.Nat.{ℕ, _*_}
 use lib.Dec.{eqb, ltb}
 use lib.ListN.{length, drop}
+use Rattle.width.specs.Limits.{u32Max}
 use Rattle.chars.specs.Rfc3629.{textUpTo}
 use Rattle.steps.specs.Path.{Parsed, parse}
 use Rattle.writing.specs.Written.{namesOf, wordsOf, counted, total}
@@ -19,7 +20,7 @@ stepsOf s = cond (ltb (textUpTo s) (length s)) (refused 70) (cond (leadingDot s)
 
 -- 76 comes last
 abbrev pub lacking : (names words count total : ℕ) → Bool
-lacking names words count total = ltb words (3 * count) || (ltb names total || ltb 4294967295 total)
+lacking names words count total = ltb words (3 * count) || (ltb names total || ltb u32Max total)
 
 abbrev pub roomFor : List ℕ → List ℕ → Parsed → Parsed
 roomFor names words (refused code) = refused code

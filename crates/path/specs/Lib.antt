@@ -1,4 +1,5 @@
 pub mod Path
+pub mod Meaning
 pub mod Answers
 pub mod Promises
 pub mod Steps

@@ -16,6 +16,10 @@ use Rattle.strides.specs.Stride.{stride}
 abbrev pub whole : List ℕ → Spot
 whole v = record { field = 0; id = 0; start = 0; end = length v }
 
+-- the bytes that are handed down
+abbrev pub handed : List ℕ → Spot → List ℕ
+handed v at = part v (at .start) (at .end)
+
 -- what a step found in the bytes that start at a, said from the whole's first byte
 abbrev pub spotOf : (a : ℕ) (values : List ℕ) → Spot
 spotOf a values = record { field = getD values 0 0; id = getD values 1 0; start = a + getD values 2 0; end = a + getD values 3 0 }
@@ -25,10 +29,14 @@ abbrev pub onward : (a : ℕ) → Answer → (Spot → Answer) → Answer
 onward a (gives code [] place) next = gives code [] place
 onward a (gives code (k ∷ values) place) next = next (spotOf a (k ∷ values))
 
--- ONE STEP AFTER ANOTHER, from step `number` on; `at` is what the step before found, and its bytes, from start to end, are handed down
+-- where no step is left
+abbrev pub arrival : Spot → Answer
+arrival at = accept (at .field ∷ at .id ∷ at .start ∷ at .end ∷ [])
+
+-- ONE STEP AFTER ANOTHER, from step `number` on; `at` is what the step before found
 unfoldable pub walk : (d v : List ℕ) (number : ℕ) → Spot → List Step → Answer
-walk d v number at [] = accept (at .field ∷ at .id ∷ at .start ∷ at .end ∷ [])
-walk d v number at (x ∷ xs) = onward (at .start) (stride d (part v (at .start) (at .end)) number x) (λ next. walk d v (suc number) next xs)
+walk d v number at [] = arrival at
+walk d v number at (x ∷ xs) = onward (at .start) (stride d (handed v at) number x) (λ next. walk d v (suc number) next xs)
 
 -- the dictionary first
 unfoldable pub asked : (d v : List ℕ) → List Step → Answer

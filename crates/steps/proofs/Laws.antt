@@ -1,16 +1,10 @@
 -- Laws of steps, at places of the list, as code goes by them. Assumes nothing.
-use mathlib.Core.Path.{_≡_, refl, sym, ap, _∙_}
-use mathlib.Core.Bool.{Bool, true, false, cond, _&&_}
-use mathlib.Core.List.{List, [], _∷_}
-use Prim.Native.Nat.{ℕ, zero, suc, _+_, _-_, _≤_, _<_}
-use native.Mathlib.Numerals.{add-one}
-use native.Mathlib.Omega.{arith}
-use borrow.Author.Tests.{lt-leb, le-leb, ne-eqb}
-use lib.Dec.{leb}
-use lib.ListN.{length, take, drop, getD, drop-of-length-le}
-use lib.Seq.{drop-cons, drop-drop}
-use Rattle.brackets.specs.Brackets.{closes, content, firstOr, lastOr, sameQuotes, unquoted, number}
-use Rattle.steps.specs.Path.{Step, ends, plain, numbered, element, closed, bracket, dotted, next, add, parse}
+use Rattle.rules.proofs.Prelude.{_≡_, refl, sym, ap, _∙_, Bool, true, false, cond, List, [], _∷_, ℕ, zero, suc, _+_, _-_, _≤_, _<_, add-one, arith}
+use Rattle.rules.proofs.Prelude.{ne-eqb, length, take, drop, getD, drop-drop}
+use lib.ListN.{drop-of-length-le}
+use lib.Seq.{drop-cons}
+use Rattle.brackets.specs.Brackets.{closes, content, inQuotes, quoted, unquoted, number}
+use Rattle.steps.specs.Path.{Step, Next, ends, plain, numbered, element, closed, bracket, dotted, next, add, parse}
 use Rattle.steps.specs.Path.Step.{named}
 use Rattle.steps.specs.Path.Next.{wrong, takes}
 use Rattle.steps.specs.Path.Parsed.{refused, steps}
@@ -35,7 +29,7 @@ module _ (s : List ℕ) (at : ℕ) where
 
 -- Brackets.
 
-closed-some : (n : ℕ) (t : List ℕ) → 0 < n → closed n t ≡ element n t
+pub closed-some : (n : ℕ) (t : List ℕ) → 0 < n → closed n t ≡ element n t
 closed-some zero t h = absurd (omega arith)
 closed-some (suc n) t h = refl
 
@@ -45,40 +39,35 @@ module _ (u : List ℕ) where
   bracket-open e = rw e
 
   module _ (h : 0 < closes false u) where
-    pub bracket-few : length (content false u) < 2 → bracket u ≡ numbered (closes false u) (number (content false u))
+    bracket-number : quoted (content false u) ≡ false → bracket u ≡ numbered (closes false u) (number (content false u))
     unfolding bracket
-    bracket-few k = closed-some _ _ h ∙ rw (lt-leb 2 (length (content false u)) k)
+    bracket-number e = closed-some _ _ h ∙ rw e
 
-    pub bracket-unquoted : sameQuotes (firstOr 0 (content false u)) (lastOr 0 (content false u)) ≡ false → bracket u ≡ numbered (closes false u) (number (content false u))
+    bracket-name : quoted (content false u) ≡ true → bracket u ≡ takes (named (unquoted (content false u))) (closes false u)
     unfolding bracket
-    bracket-unquoted e = closed-some _ _ h ∙ rw e (go (leb 2 (length (content false u))))
-      where
-        go : (v : Bool) → cond (v && false) (takes (named (unquoted (content false u))) (closes false u)) (numbered (closes false u) (number (content false u))) ≡ numbered (closes false u) (number (content false u))
-        go true = refl
-        go false = refl
-
-    pub bracket-quoted : 2 ≤ length (content false u) → sameQuotes (firstOr 0 (content false u)) (lastOr 0 (content false u)) ≡ true → bracket u ≡ takes (named (unquoted (content false u))) (closes false u)
-    unfolding bracket
-    bracket-quoted k e = closed-some _ _ h ∙ rw (le-leb 2 (length (content false u)) k, e)
+    bracket-name e = closed-some _ _ h ∙ rw e
 
 -- after a pass over them
-module _ (s : List ℕ) (at : ℕ) (l : Look) (r : LookOf s at l) (h : l .size ≡ 0 → ⊥) where
+module _ {s : List ℕ} {at : ℕ} {l : Look} (r : LookOf s at l) (h : l .size ≡ 0 → ⊥) where
   some-close : 0 < closes false (drop at s)
   some-close = omega (arith, r .size-is, h)
 
-  pub look-few : l .count < 2 → numbered (l .size) (number (content false (drop at s))) ≡ bracket (drop at s)
-  look-few k = sym (bracket-few (drop at s) some-close (omega (arith, r .count-is)) ∙ rw (r .size-is))
+  look-number : quoted (content false (drop at s)) ≡ false → numbered (l .size) (number (content false (drop at s))) ≡ bracket (drop at s)
+  look-number e = sym (bracket-number (drop at s) some-close e ∙ rw (r .size-is))
 
-  pub look-unquoted : (byte size : ℕ) → ByteOf s at byte size → sameQuotes byte (l .last) ≡ false → numbered (l .size) (number (content false (drop at s))) ≡ bracket (drop at s)
-  look-unquoted byte size b e =
-      let q : sameQuotes (firstOr 0 (content false (drop at s))) (lastOr 0 (content false (drop at s))) ≡ false = rw (first-byte s at byte size b, ← r .last-is) e in
-      sym (bracket-unquoted (drop at s) some-close q ∙ rw (r .size-is))
+  pub look-none : content false (drop at s) ≡ [] → numbered (l .size) (number (content false (drop at s))) ≡ bracket (drop at s)
+  look-none e = look-number (rw e)
 
-  pub look-quoted : (byte size : ℕ) → ByteOf s at byte size → 2 ≤ l .count → sameQuotes byte (l .last) ≡ true
-      → takes (named (take (l .count - 2) (content false (drop (at + size) s)))) (l .size) ≡ bracket (drop at s)
-  look-quoted byte size b k e =
-      let q : sameQuotes (firstOr 0 (content false (drop at s))) (lastOr 0 (content false (drop at s))) ≡ true = rw (first-byte s at byte size b, ← r .last-is) e in
-      sym (bracket-quoted (drop at s) some-close (omega (arith, r .count-is)) q ∙ rw (unquoted-byte s at byte size (l .count) b (r .count-is), r .size-is))
+  module _ {byte size : ℕ} (b : ByteOf s at byte size) where
+    look-is : quoted (content false (drop at s)) ≡ inQuotes (l .count) byte (l .last)
+    look-is = rw (r .count-is, first-byte b, r .last-is)
+
+    pub look-unquoted : inQuotes (l .count) byte (l .last) ≡ false → numbered (l .size) (number (content false (drop at s))) ≡ bracket (drop at s)
+    look-unquoted e = look-number (look-is ∙ e)
+
+    pub look-quoted : inQuotes (l .count) byte (l .last) ≡ true
+        → takes (named (take (l .count - 2) (content false (drop (at + size) s)))) (l .size) ≡ bracket (drop at s)
+    look-quoted e = sym (bracket-name (drop at s) some-close (look-is ∙ e) ∙ rw (unquoted-byte b (r .count-is), r .size-is))
 
 -- A dot and a name.
 
@@ -86,27 +75,32 @@ pub dotted-end : (s : List ℕ) (at : ℕ) → length s ≤ at → dotted (drop 
 unfolding dotted
 dotted-end s at h = rw (drop-of-length-le s h)
 
-dotted-stop-at : (c : ℕ) (s : List ℕ) → plain (c ∷ s) ≡ 0 → dotted (c ∷ s) ≡ wrong 73
-unfolding plain dotted
-dotted-stop-at c s = go (ends c)
-  where
-    go : (u : Bool) → cond u 0 (suc (plain s)) ≡ 0 → cond u (wrong 73) (takes (named (c ∷ take (plain s) s)) (suc (plain s))) ≡ wrong 73
-    go true e = refl
-    go false e = absurd (omega arith)
+module _ (c : ℕ) (s : List ℕ) where
+  after-dot : Bool → Next
+  after-dot u = cond u (wrong 73) (takes (named (c ∷ take (plain s) s)) (suc (plain s)))
 
-pub dotted-stop : (s : List ℕ) (at : ℕ) → at < length s → plain (drop at s) ≡ 0 → dotted (drop at s) ≡ wrong 73
-dotted-stop s at h e = rw (drop-cons s at 0 h) (dotted-stop-at (getD s at 0) (drop (suc at) s) (rw (drop-cons s at 0 h) at e))
+  dotted-stop-at : plain (c ∷ s) ≡ 0 → dotted (c ∷ s) ≡ wrong 73
+  unfolding plain dotted after-dot
+  dotted-stop-at = go (ends c)
+    where
+      go : (u : Bool) → cond u 0 (suc (plain s)) ≡ 0 → after-dot u ≡ wrong 73
+      go true e = refl
+      go false e = absurd (omega arith)
 
-dotted-name-at : (c : ℕ) (s : List ℕ) (n : ℕ) → n ≡ plain (c ∷ s) → (n ≡ 0 → ⊥) → dotted (c ∷ s) ≡ takes (named (take n (c ∷ s))) n
-unfolding plain dotted
-dotted-name-at c s n = go (ends c)
-  where
-    go : (u : Bool) → n ≡ cond u 0 (suc (plain s)) → (n ≡ 0 → ⊥) → cond u (wrong 73) (takes (named (c ∷ take (plain s) s)) (suc (plain s))) ≡ takes (named (take n (c ∷ s))) n
-    go true e f = absurd (f e)
-    go false e f = rw e
+  dotted-name-at : (n : ℕ) → n ≡ plain (c ∷ s) → (n ≡ 0 → ⊥) → dotted (c ∷ s) ≡ takes (named (take n (c ∷ s))) n
+  unfolding plain dotted after-dot
+  dotted-name-at n = go (ends c)
+    where
+      go : (u : Bool) → n ≡ cond u 0 (suc (plain s)) → (n ≡ 0 → ⊥) → after-dot u ≡ takes (named (take n (c ∷ s))) n
+      go true e f = absurd (f e)
+      go false e f = rw e
 
-pub dotted-name : (s : List ℕ) (at n : ℕ) → at < length s → n ≡ plain (drop at s) → (n ≡ 0 → ⊥) → dotted (drop at s) ≡ takes (named (take n (drop at s))) n
-dotted-name s at n h e f = rw (drop-cons s at 0 h) (dotted-name-at (getD s at 0) (drop (suc at) s) n (rw (drop-cons s at 0 h) at e) f)
+module _ (s : List ℕ) (at : ℕ) (h : at < length s) where
+  pub dotted-stop : plain (drop at s) ≡ 0 → dotted (drop at s) ≡ wrong 73
+  dotted-stop e = rw (drop-cons s at 0 h) (dotted-stop-at (getD s at 0) (drop (suc at) s) (rw (drop-cons s at 0 h) at e))
+
+  pub dotted-name : (n : ℕ) → n ≡ plain (drop at s) → (n ≡ 0 → ⊥) → dotted (drop at s) ≡ takes (named (take n (drop at s))) n
+  dotted-name n e f = rw (drop-cons s at 0 h) (dotted-name-at (getD s at 0) (drop (suc at) s) n (rw (drop-cons s at 0 h) at e) f)
 
 -- A step.
 
@@ -137,9 +131,13 @@ parse-skip zero s = refl
 parse-skip (suc n) [] = refl
 parse-skip (suc n) (b ∷ s) = parse-skip n s
 
-parse-cons : (b : ℕ) (s : List ℕ) (x : Step) (n : ℕ) → next b s ≡ takes x n → parse 0 (b ∷ s) ≡ add x (parse 0 (drop n s))
+pub parse-cons : (b : ℕ) (s : List ℕ) (x : Step) (n : ℕ) → next b s ≡ takes x n → parse 0 (b ∷ s) ≡ add x (parse 0 (drop n s))
 unfolding parse
 parse-cons b s x n e = rw e (ap (add x) (parse-skip n s))
+
+pub parse-stop : (b : ℕ) (s : List ℕ) (code : ℕ) → next b s ≡ wrong code → parse 0 (b ∷ s) ≡ refused code
+unfolding parse
+parse-stop b s code e = rw e
 
 module _ (s : List ℕ) (at : ℕ) where
   pub parse-end : length s ≤ at → parse 0 (drop at s) ≡ steps []
@@ -147,8 +145,7 @@ module _ (s : List ℕ) (at : ℕ) where
   parse-end h = rw (drop-of-length-le s h)
 
   pub parse-wrong : (code : ℕ) → at < length s → next (getD s at 0) (drop (at + 1) s) ≡ wrong code → parse 0 (drop at s) ≡ refused code
-  unfolding parse
-  parse-wrong code h e = rw (drop-cons s at 0 h, ← add-one at, e)
+  parse-wrong code h e = rw (drop-cons s at 0 h) (parse-stop (getD s at 0) (drop (suc at) s) code (rw (add-one at) at e))
 
   pub parse-step : (x : Step) (n : ℕ) → at < length s → next (getD s at 0) (drop (at + 1) s) ≡ takes x n → parse 0 (drop at s) ≡ add x (parse 0 (drop (at + (n + 1)) s))
   parse-step x n h e =

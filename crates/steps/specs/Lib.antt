@@ -1,3 +1,4 @@
 pub mod Path
+pub mod Meaning
 pub mod Answers
 pub mod Steps

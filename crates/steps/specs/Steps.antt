@@ -4,7 +4,7 @@ use mathlib.Core.Bool.{false}
 use mathlib.Core.List.{List}
 use Prim.Native.Nat.{ℕ, _+_, _≤_, _<_}
 use lib.ListN.{length, take, drop, getD}
-use Rattle.brackets.specs.Brackets.{content}
+use Rattle.brackets.specs.Brackets.{indexLimit, content}
 use Rattle.steps.specs.Path.{Next, next}
 use Rattle.steps.specs.Path.Step.{named, indexed}
 use Rattle.steps.specs.Path.Next.{wrong, takes}
@@ -24,7 +24,7 @@ abbrev pub Bounded : List ℕ → ℕ → Scan → Type 0
 Bounded s at (scan.Wrong r) = Unit {0}
 Bounded s at (scan.Plain from len more) = (from + len ≤ length s) × (len ≤ more + 1) × (at + 1 + more ≤ length s)
 Bounded s at (scan.Quoted from len more) = (len ≤ length (content false (drop from s))) × (len ≤ more + 1) × (at + 1 + more ≤ length s)
-Bounded s at (scan.Index value more) = (value < 18446744073709551616) × (at + 1 + more ≤ length s)
+Bounded s at (scan.Index value more) = (value < indexLimit) × (at + 1 + more ≤ length s)
 
 -- the step that the byte at `at` starts
 abbrev pub ScanOf : List ℕ → ℕ → Scan → Type 0

@@ -2,7 +2,7 @@
 ghost use mathlib.Core.Path.{_≡_};
 ghost use mathlib.Core.Bool.{false};
 ghost use Prim.Native.Nat.{_+_, _≤_, _<_};
-ghost use lib.ListN.{length, take, drop};
+ghost use lib.ListN.{length, drop};
 ghost use Rattle.brackets.specs.Brackets.{content, digits, number};
 ghost use Rattle.steps.specs.Path.{ends, plain, numbered, bracket, dotted};
 ghost use Rattle.steps.specs.Steps.{readScan, Bounded, ScanOf};
@@ -85,15 +85,12 @@ fn bracket_at(path: &[u8], at: usize) -> Scan
     if l.size == 0 {
         return Scan::Wrong(Refusal::Unclosed);
     }
-    if l.count < 2 {
-        return numbered_at(path, at, l.size);
-    }
     let unit = brackets::unit_at(path, at + 1);
     match unit {
         Piece::Never => numbered_at(path, at, l.size),
         Piece::Close => numbered_at(path, at, l.size),
         Piece::Byte { byte, size } => {
-            if brackets::is_quote(byte, l.last) {
+            if brackets::is_quoted(l.count, byte, l.last) {
                 return Scan::Quoted {
                     from: at + 1 + size,
                     len: l.count - 2,

@@ -1,12 +1,7 @@
 -- How many steps a path has, and how long their names are. Assumes nothing.
-use mathlib.Core.Path.{_≡_, refl, sym, ap₂, _∙_}
-use mathlib.Core.Bool.{false}
-use mathlib.Core.List.{List}
-use Prim.Native.Nat.{ℕ, _+_, _-_, _≤_, _<_}
-use native.Mathlib.Omega.{arith}
-use lib.ListN.{length, take, drop, getD, length-drop}
+use Rattle.rules.proofs.Prelude.{_≡_, refl, sym, ap₂, _∙_, false, List, ℕ, _+_, _≤_, _<_, arith, length, take, drop, getD, length-drop}
 use lib.Seq.{length-take-le}
-use Rattle.brackets.specs.Brackets.{content}
+use Rattle.brackets.specs.Brackets.{indexLimit, content}
 use Rattle.steps.specs.Path.{Step, Parsed, next, add, parse}
 use Rattle.writing.specs.Written.{Sizes, weight, total, counted, sizes}
 use Rattle.steps.specs.Path.Step.{named, indexed}
@@ -47,17 +42,17 @@ pub record Counted (s : List ℕ) (at count sum : ℕ) : Type 0 where
 pub count-start : (s : List ℕ) → Counted s 0 0 0
 count-start s = record { sizes-are = sym (grow-none (sizes (parse 0 s))); few-steps = omega arith; few-bytes = omega arith; inside = omega arith }
 
-module _ (s : List ℕ) (at count sum : ℕ) (r : Counted s at count sum) where
-  pub count-wrong : (code : ℕ) → at < length s → next (getD s at 0) (drop (at + 1) s) ≡ wrong code → bad code ≡ sizes (parse 0 s)
+module _ {s : List ℕ} {at count sum : ℕ} (r : Counted s at count sum) where
+  pub count-wrong : {code : ℕ} → at < length s → next (getD s at 0) (drop (at + 1) s) ≡ wrong code → bad code ≡ sizes (parse 0 s)
   unfolding grow
-  count-wrong code h e = sym (r .sizes-are ∙ rw (parse-wrong s at code h e))
+  count-wrong {code = code} h e = sym (r .sizes-are ∙ rw (parse-wrong s at code h e))
 
   pub count-end : length s ≤ at → of count sum ≡ sizes (parse 0 s)
   unfolding grow counted total
   count-end h = sym (r .sizes-are ∙ rw (parse-end s at h) (ap₂ of (omega arith) (omega arith)))
 
-  pub count-turn : (len more : ℕ) → at < length s → TakesOf s at len more → Counted s (at + (more + 1)) (count + 1) (sum + len)
-  count-turn len more h t =
+  pub count-turn : {len more : ℕ} → at < length s → TakesOf s at len more → Counted s (at + (more + 1)) (count + 1) (sum + len)
+  count-turn {len = len} {more = more} h t =
       let rest = sizes (parse 0 (drop (at + (more + 1)) s)) in
       record {
         sizes-are = r .sizes-are ∙ rw (parse-step s at (t .step) more h (t .is), sizes-add (t .step) (parse 0 (drop (at + (more + 1)) s)), t .weighs) (grow-grow count sum 1 len rest);
@@ -66,20 +61,23 @@ module _ (s : List ℕ) (at count sum : ℕ) (r : Counted s at count sum) where
         inside = omega (arith, t .inside);
       }
 
-pub plain-takes : (s : List ℕ) (at from len more : ℕ) → takes (named (take len (drop from s))) more ≡ next (getD s at 0) (drop (at + 1) s)
-    → (from + len ≤ length s) × (len ≤ more + 1) × (at + 1 + more ≤ length s) → TakesOf s at len more
-unfolding weight
-plain-takes s at from len more e (f, g, h) =
-    record { step = named (take len (drop from s)); is = sym e; weighs = length-take-le len (drop from s) (simp length-drop (omega arith)); fewer = g; inside = h }
+-- WHAT A SCAN TAKES
+module _ {s : List ℕ} {at : ℕ} where
+  pub plain-takes : (from : ℕ) {len more : ℕ} → takes (named (take len (drop from s))) more ≡ next (getD s at 0) (drop (at + 1) s)
+      → (from + len ≤ length s) × (len ≤ more + 1) × (at + 1 + more ≤ length s) → TakesOf s at len more
+  unfolding weight
+  plain-takes from {len = len} e (f, g, h) =
+      let rest = drop from s in
+      record { step = named (take len rest); is = sym e; weighs = length-take-le len rest (simp length-drop (omega arith)); fewer = g; inside = h }
 
-pub quoted-takes : (s : List ℕ) (at from len more : ℕ) → takes (named (take len (content false (drop from s)))) more ≡ next (getD s at 0) (drop (at + 1) s)
-    → (len ≤ length (content false (drop from s))) × (len ≤ more + 1) × (at + 1 + more ≤ length s) → TakesOf s at len more
-unfolding weight
-quoted-takes s at from len more e (f, g, h) =
-    record { step = named (take len (content false (drop from s))); is = sym e; weighs = length-take-le len (content false (drop from s)) f; fewer = g; inside = h }
+  pub quoted-takes : (from : ℕ) {len more : ℕ} → takes (named (take len (content false (drop from s)))) more ≡ next (getD s at 0) (drop (at + 1) s)
+      → (len ≤ length (content false (drop from s))) × (len ≤ more + 1) × (at + 1 + more ≤ length s) → TakesOf s at len more
+  unfolding weight
+  quoted-takes from {len = len} e (f, g, h) =
+      let rest = content false (drop from s) in
+      record { step = named (take len rest); is = sym e; weighs = length-take-le len rest f; fewer = g; inside = h }
 
-pub index-takes : (s : List ℕ) (at value more : ℕ) → takes (indexed value) more ≡ next (getD s at 0) (drop (at + 1) s)
-    → (value < 18446744073709551616) × (at + 1 + more ≤ length s) → TakesOf s at 0 more
-unfolding weight
-index-takes s at value more e (f, h) =
-    record { step = indexed value; is = sym e; weighs = refl; fewer = omega arith; inside = h }
+  pub index-takes : {value more : ℕ} → takes (indexed value) more ≡ next (getD s at 0) (drop (at + 1) s)
+      → (value < indexLimit) × (at + 1 + more ≤ length s) → TakesOf s at 0 more
+  unfolding weight
+  index-takes {value = value} e (f, h) = record { step = indexed value; is = sym e; weighs = refl; fewer = omega arith; inside = h }

@@ -4,6 +4,7 @@ use mathlib.Core.List.{List, []}
 use Prim.Native.Nat.{ℕ, _+_, _*_, _≤_}
 use lib.ListN.{length, drop, getD}
 use lib.Seq.{sets}
+use Rattle.width.specs.Limits.{u32Max}
 use Rattle.steps.specs.Path.{Step, Parsed, next, parse}
 use Rattle.writing.specs.Written.{Sizes, weight, textOf, rowOf, counted, total, sizes}
 use Rattle.steps.specs.Path.Next.{wrong, takes}
@@ -48,7 +49,7 @@ pub record Due (s : List ℕ) (at used row : ℕ) (names words : List ℕ) : Typ
   pub is : next (getD s at 0) (drop (at + 1) s) ≡ takes step more
   pub names-room : used + weight step ≤ length names
   pub words-room : row + 3 ≤ length words
-  pub fits : used + weight step ≤ 4294967295
+  pub fits : used + weight step ≤ u32Max
 
 -- it was written
 pub record WroteOf (s : List ℕ) (at used row : ℕ) (names words names′ words′ : List ℕ) (w : Wrote) : Type 0 where
@@ -65,7 +66,7 @@ pub record Room (s names words : List ℕ) : Type 0 where
   pub is : parse 0 s ≡ steps all
   pub names-room : total all ≤ length names
   pub words-room : 3 * counted all ≤ length words
-  pub fits : total all ≤ 4294967295
+  pub fits : total all ≤ u32Max
 
 abbrev pub stepsIn : Parsed → List Step
 stepsIn (refused code) = []

@@ -5,6 +5,7 @@ ghost use Prim.Native.Nat.{_+_, _≤_, _<_};
 ghost use mathlib.Core.List.{[], _∷_};
 ghost use lib.ListN.{length, take, drop};
 ghost use lib.Seq.{sets};
+ghost use Rattle.width.specs.Limits.{u32Max};
 ghost use Rattle.brackets.specs.Brackets.{content};
 ghost use Rattle.steps.specs.Path.{parse as parseOf};
 ghost use Rattle.writing.specs.Written.{namesOf, wordsOf};
@@ -98,7 +99,7 @@ fn copy_content(path: &[u8], from: usize, len: usize, names: &mut [u8], to: usiz
 }
 
 fn put_row(words: &mut [u32], row: usize, kind: usize, first: usize, second: usize)
-    requires { ⌜ (row + 3 ≤ length (now words)) × (kind ≤ 1) × (first ≤ 4294967295) × (second ≤ 4294967295) ⌝ }
+    requires { ⌜ (row + 3 ≤ length (now words)) × (kind ≤ 1) × (first ≤ u32Max) × (second ≤ u32Max) ⌝ }
     ensures { λ _. ⌜ now (words .exit) ≡ sets (now (words .entry)) row (kind ∷ first ∷ second ∷ []) ⌝ }
 {
     words[row] = kind as u32;

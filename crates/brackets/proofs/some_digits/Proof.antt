@@ -1,8 +1,7 @@
+-- `brackets::some_digits` meets its contract. Assumes nothing.
+use Rattle.rules.proofs.Prelude.{sym, ap, _∙_, needs}
 use Rattle.brackets.specs.Brackets.{small}
 use Rattle.brackets.proofs.Laws.{some-none, some-byte}
-use mathlib.Core.Path.{sym, ap, _∙_}
-use Prim.Native.Nat.{_-_}
-use borrow.Author.Needs.{needs}
 use Rattle.brackets.proofs.some_digits.Statement.{statement}
 use Rattle.brackets.proofs.some_digits.Tie as tie
 
@@ -15,6 +14,9 @@ some-digits-spec =
     (λ c. search needs)  -- enum-told-2
     (λ c. search needs)  -- enum-told-3
     (λ c κs. search needs)  -- digits-at-requires
-    (λ c. let r = rw (c .enum-told .given .1) at (c .before .before .unit-at .ensures) in sym (some-none (c .before .before .before .before .args .path .now) (c .before .before .before .before .args .from) (r .0)))  -- returns
-    (λ c. let r = rw (c .enum-told2 .given .1) at (c .before .before .unit-at .ensures) in sym (some-none (c .before .before .before .before .args .path .now) (c .before .before .before .before .args .from) (r .0)))  -- returns-2
-    (λ c. let e = some-byte (c .before .before .before .before .before .args .path .now) (c .before .before .before .before .before .args .from) _ _ (rw (c .before .enum-told3 .given .1) at (c .before .before .before .unit-at .ensures)) in c .digits-at .ensures ∙ sym (ap small e)))  -- returns-3
+    (λ c. let r = rw (c .enum-told .given .1) at (c .before .before .unit-at .ensures) in
+    sym (some-none (c .before .before .before .before .args .path .now) (c .before .before .before .before .args .from) (r .0)))  -- returns
+    (λ c. let r = rw (c .enum-told2 .given .1) at (c .before .before .unit-at .ensures) in
+    sym (some-none (c .before .before .before .before .args .path .now) (c .before .before .before .before .args .from) (r .0)))  -- returns-2
+    (λ c. let b = rw (c .before .enum-told3 .given .1) at (c .before .before .before .unit-at .ensures) in
+    c .digits-at .ensures ∙ sym (ap small (some-byte b))))  -- returns-3

@@ -1,7 +1,5 @@
-use Prim.Native.Nat.{_-_}
-use native.Mathlib.Omega.{arith}
-use borrow.Author.Needs.{needs}
-use lib.ListN.{length}
+-- `brackets::survey` meets its contract: the loop keeps what has been seen up to `at`. Assumes nothing.
+use Rattle.rules.proofs.Prelude.{_-_, length, arith, needs}
 use Rattle.brackets.proofs.Laws.{Surveyed, survey-start, survey-turn, survey-never, survey-close}
 use Rattle.brackets.proofs.survey.Statement.{statement}
 use Rattle.brackets.proofs.survey.Tie as tie
@@ -21,13 +19,13 @@ survey-spec =
     (λ c. survey-start _ _ (omega arith))  -- loop-holds
     (λ c κs. tt)  -- unit-at-requires
     (λ c. search needs)  -- enum-told
-    (λ c. survey-never (c .before .before .before .before .before .args .path .now) (c .before .before .before .before .before .args .from) (c .before .before .before .loop .at) (c .before .before .before .loop .count) (c .before .before .before .loop .last) (c .before .before .before .loop .inv) (rw (c .enum-told .given .1) at (c .before .before .unit-at .ensures)))  -- returns
+    (λ c. survey-never (c .before .before .before .loop .inv) (rw (c .enum-told .given .1) at (c .before .before .unit-at .ensures)))  -- returns
     (λ c. search needs)  -- enum-told-2
     (λ c. let r = rw (c .enum-told2 .given .1) at (c .before .before .unit-at .ensures) in omega (arith, r))  -- add-t9
     (λ c. omega (arith, c .before .before .before .loop .inv))  -- sub-t10
-    (λ c. survey-close (c .before .before .before .before .before .args .path .now) (c .before .before .before .before .before .args .from) (c .before .before .before .loop .at) (c .before .before .before .loop .count) (c .before .before .before .loop .last) (c .before .before .before .loop .inv) (rw (c .enum-told2 .given .1) at (c .before .before .unit-at .ensures)))  -- returns-2
+    (λ c. survey-close (c .before .before .before .loop .inv) (rw (c .enum-told2 .given .1) at (c .before .before .unit-at .ensures)))  -- returns-2
     (λ c. search needs)  -- enum-known-unit
     (λ c. omega (arith, rw (c .before .unit .given .1) at (c .before .before .before .unit-at .ensures)))  -- add-at
     (λ c. omega (arith, c .before .before .before .before .loop .inv, rw (c .before .unit .given .1) at (c .before .before .before .unit-at .ensures)))  -- add-count
     (λ c. omega (arith, rw (c .before .unit .given .1) at (c .before .before .before .unit-at .ensures)))  -- loop-less
-    (λ c. survey-turn (c .before .before .before .before .before .before .args .path .now) (c .before .before .before .before .before .before .args .from) (c .before .before .before .before .loop .at) (c .before .before .before .before .loop .count) (c .before .before .before .before .loop .last) _ _ (c .before .before .before .before .loop .inv) (rw (c .before .unit .given .1) at (c .before .before .before .unit-at .ensures))))  -- loop-again
+    (λ c. survey-turn (c .before .before .before .before .loop .inv) (rw (c .before .unit .given .1) at (c .before .before .before .unit-at .ensures))))  -- loop-again

@@ -1,8 +1,6 @@
+-- `parsing::starts_with_dot` meets its contract. Assumes nothing.
+use Rattle.rules.proofs.Prelude.{sym, arith, needs}
 use Rattle.parsing.proofs.Laws.{dot-none, dot-some}
-use mathlib.Core.Path.{sym}
-use Prim.Native.Nat.{_-_}
-use native.Mathlib.Omega.{arith}
-use borrow.Author.Needs.{needs}
 use Rattle.parsing.proofs.starts_with_dot.Statement.{statement}
 use Rattle.parsing.proofs.starts_with_dot.Tie as tie
 

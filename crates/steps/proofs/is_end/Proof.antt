@@ -1,5 +1,5 @@
-use Prim.Native.Nat.{_-_}
-use borrow.Author.Tests.{eq-eqb, ne-eqb}
+-- `steps::is_end` meets its contract. Assumes nothing.
+use Rattle.rules.proofs.Prelude.{eq-eqb, ne-eqb}
 use Rattle.steps.proofs.is_end.Statement.{statement}
 use Rattle.steps.proofs.is_end.Tie as tie
 

@@ -1,8 +1,6 @@
+-- `steps::numbered_at` meets its contract. Assumes nothing.
+use Rattle.rules.proofs.Prelude.{sym, arith, needs}
 use Rattle.brackets.proofs.Laws.{number-below}
-use mathlib.Core.Path.{sym}
-use Prim.Native.Nat.{_-_}
-use native.Mathlib.Omega.{arith}
-use borrow.Author.Needs.{needs}
 use Rattle.steps.proofs.numbered_at.Statement.{statement}
 use Rattle.steps.proofs.numbered_at.Tie as tie
 

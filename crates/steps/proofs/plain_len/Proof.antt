@@ -1,7 +1,5 @@
-use mathlib.Core.Path.{_≡_, sym, _∙_}
-use Prim.Native.Nat.{_+_, _-_, _≤_}
-use native.Mathlib.Omega.{arith}
-use lib.ListN.{length, drop}
+-- `steps::plain_len` meets its contract: the loop keeps that no byte before `at` ends the name. Assumes nothing.
+use Rattle.rules.proofs.Prelude.{_≡_, sym, _∙_, _+_, _-_, _≤_, length, drop, arith}
 use Rattle.steps.specs.Path.{plain}
 use Rattle.steps.proofs.Laws.{plain-end, plain-stop, plain-more}
 use Rattle.steps.proofs.plain_len.Statement.{statement}
@@ -23,9 +21,13 @@ plain-len-spec =
     (λ c. omega arith)  -- shared-slice-read-is-end
     (λ c κs. tt)  -- is-end-requires
     (λ c. omega arith)  -- sub-result
-    (λ c. (omega (arith, plain-stop (c .before .before .before .before .before .before .args .path .now) (c .before .before .before .before .loop .at) (omega arith) (sym (c .before .is-end .ensures) ∙ c .if1 .taken)), omega arith))  -- returns
+    (λ c. let end = sym (c .before .is-end .ensures) ∙ c .if1 .taken in
+    let stop = plain-stop (c .before .before .before .before .before .before .args .path .now) (c .before .before .before .before .loop .at) (omega arith) end in
+    (omega (arith, stop), omega arith))  -- returns
     (λ c. omega arith)  -- add-at
     (λ c. omega arith)  -- loop-less
-    (λ c. (omega (arith, plain-more (c .before .before .before .before .before .before .args .path .now) (c .before .before .before .before .loop .at) (omega arith) (sym (c .before .is-end .ensures) ∙ c .if1 .left)), omega arith, omega arith))  -- loop-again
+    (λ c. let end = sym (c .before .is-end .ensures) ∙ c .if1 .left in
+    let more = plain-more (c .before .before .before .before .before .before .args .path .now) (c .before .before .before .before .loop .at) (omega arith) end in
+    (omega (arith, more), omega arith, omega arith))  -- loop-again
     (λ c. omega arith)  -- sub-result-2
     (λ c. (omega (arith, plain-end (c .before .before .before .args .path .now) (c .before .loop .at) (omega arith)), omega arith)))  -- returns-2

@@ -1,8 +1,6 @@
+-- `steps::step_at` meets its contract, by the byte that starts the step. Assumes nothing.
+use Rattle.rules.proofs.Prelude.{sym, _∙_, arith, needs}
 use Rattle.steps.proofs.Laws.{next-dot, next-bracket, next-close, next-name}
-use mathlib.Core.Path.{sym, _∙_}
-use Prim.Native.Nat.{_-_}
-use native.Mathlib.Omega.{arith}
-use borrow.Author.Needs.{needs}
 use Rattle.steps.proofs.step_at.Statement.{statement}
 use Rattle.steps.proofs.step_at.Tie as tie
 
@@ -19,4 +17,6 @@ step-at-spec =
     (λ c. search needs)  -- add-plain-len
     (λ c κs. search needs)  -- plain-len-requires
     (λ c. search needs)  -- add-t8
-    (λ c. (next-name (c .before .before .before .before .before .before .args .path .now) (c .before .before .before .before .before .before .args .at) _ (omega arith) (c .before .before .before .if1 .left) (c .before .before .if2 .left) (c .before .if3 .left) (c .plain-len .ensures .0), (omega arith, omega arith, omega arith))))  -- returns-4
+    (λ c. let a = c .before .before .before .before .before .before .args in
+    let name = next-name (a .path .now) (a .at) _ (omega arith) (c .before .before .before .if1 .left) (c .before .before .if2 .left) (c .before .if3 .left) (c .plain-len .ensures .0) in
+    (name, (omega arith, omega arith, omega arith))))  -- returns-4

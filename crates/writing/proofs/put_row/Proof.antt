@@ -1,12 +1,11 @@
-use lib.ListN.{length-set}
-use mathlib.Core.Path.{_≡_}
-use Prim.Native.Nat.{suc, _+_, _-_}
-use native.Mathlib.Omega.{arith}
-use borrow.Author.Needs.{needs}
+-- `writing::put_row` meets its contract. Assumes nothing.
+use Rattle.rules.proofs.Prelude.{_≡_, suc, _+_, length-set, arith, needs}
+use Rattle.width.specs.Limits.{u32Max}
 use Rattle.writing.proofs.put_row.Statement.{statement}
 use Rattle.writing.proofs.put_row.Tie as tie
 
 pub put-row-spec : {M : Type 1} → statement M
+unfolding u32Max
 put-row-spec =
     tie.close
     (tie.spec
@@ -22,4 +21,7 @@ put-row-spec =
     (λ c. search needs)  -- mul-words-3
     (λ c. simp length-set (omega arith))  -- slice-write-words-3
     (λ c. search needs)  -- same-length
-    (λ c. let row = c .args .row in let e1 : row + 1 ≡ suc row = omega arith in let e2 : row + 2 ≡ suc (suc row) = omega arith in rw (e1, e2)))  -- returns
+    (λ c. let row = c .args .row in
+    let e : row + 1 ≡ suc row = omega arith in
+    let f : row + 2 ≡ suc (suc row) = omega arith in
+    rw (e, f)))  -- returns

@@ -1,7 +1,6 @@
+-- `writing::write_steps` meets its contract: the loop keeps that what is left makes the same of both buffers as the whole. Assumes nothing.
+use Rattle.rules.proofs.Prelude.{_-_, length, arith}
 use Rattle.writing.proofs.Writes.{Written, write-start, write-due, write-turn, write-end}
-use Prim.Native.Nat.{_-_}
-use native.Mathlib.Omega.{arith}
-use lib.ListN.{length}
 use Rattle.writing.proofs.write_steps.Statement.{statement}
 use Rattle.writing.proofs.write_steps.Tie as tie
 
@@ -17,14 +16,18 @@ write-steps-spec =
     (tie.spec
     Inv-loop
     μ-loop
-    (λ c. write-start _ _ _ (c .before .before .before .pre))  -- loop-holds
-    (λ c κs. (omega arith, write-due (c .before .before .before .before .before .before .before .args .path .now) (c .before .before .before .before .before .before .before .args .names .now) (c .before .before .before .before .before .before .before .args .words .now) (c .before .before .before .loop .at) (c .before .before .before .loop .used) (c .before .before .before .loop .row) (c .before .before .before .loop .names) (c .before .before .before .loop .words) (c .before .before .before .loop .inv) (omega arith)))  -- write-step-requires
-    (λ c. omega (arith, write-turn (c .before .before .before .before .before .before .before .before .before .before .before .before .before .args .path .now) (c .before .before .before .before .before .before .before .before .before .before .before .before .before .args .names .now) (c .before .before .before .before .before .before .before .before .before .before .before .before .before .args .words .now) (c .before .before .before .before .before .before .before .before .before .loop .at) (c .before .before .before .before .before .before .before .before .before .loop .used) (c .before .before .before .before .before .before .before .before .before .loop .row) (c .before .before .before .before .before .before .before .before .before .loop .names) (c .before .before .before .before .before .before .before .before .before .loop .words) (c .before .before .before .before .before .before .before .before .before .loop .inv) _ _ (c .before .before .before .before .before .write-step .result) (omega arith) (c .before .before .before .before .before .write-step .ensures)))  -- add-used
-    (λ c. let t = write-turn (c .before .before .before .before .before .before .before .before .before .before .before .before .before .args .path .now) (c .before .before .before .before .before .before .before .before .before .before .before .before .before .args .names .now) (c .before .before .before .before .before .before .before .before .before .before .before .before .before .args .words .now) (c .before .before .before .before .before .before .before .before .before .loop .at) (c .before .before .before .before .before .before .before .before .before .loop .used) (c .before .before .before .before .before .before .before .before .before .loop .row) (c .before .before .before .before .before .before .before .before .before .loop .names) (c .before .before .before .before .before .before .before .before .before .loop .words) (c .before .before .before .before .before .before .before .before .before .loop .inv) _ _ (c .before .before .before .before .before .write-step .result) (omega arith) (c .before .before .before .before .before .write-step .ensures) in omega (arith, t .words-room, t .same-words))  -- add-row
+    (λ c. write-start (c .before .before .before .pre))  -- loop-holds
+    (λ c κs. (omega arith, write-due (c .before .before .before .loop .inv) (omega arith)))  -- write-step-requires
+    (λ c. let w = c .before .before .before .before .before in
+    let t = write-turn (w .before .before .before .before .loop .inv) (omega arith) (w .write-step .ensures) in
+    omega (arith, t .names-room, t .same-names))  -- add-used
+    (λ c. let w = c .before .before .before .before .before in
+    let t = write-turn (w .before .before .before .before .loop .inv) (omega arith) (w .write-step .ensures) in
+    omega (arith, t .words-room, t .same-words))  -- add-row
     (λ c. omega (arith, c .before .before .before .before .before .before .write-step .ensures .inside))  -- add-at
     (λ c. omega (arith, c .before .before .before .before .before .before .write-step .ensures .inside))  -- add-at-2
     (λ c. omega (arith, c .before .before .before .before .before .before .write-step .ensures .inside))  -- loop-less
-    (λ c. write-turn (c .before .before .before .before .before .before .before .before .before .before .before .before .before .before .args .path .now) (c .before .before .before .before .before .before .before .before .before .before .before .before .before .before .args .names .now) (c .before .before .before .before .before .before .before .before .before .before .before .before .before .before .args .words .now) (c .before .before .before .before .before .before .before .before .before .before .loop .at) (c .before .before .before .before .before .before .before .before .before .before .loop .used) (c .before .before .before .before .before .before .before .before .before .before .loop .row) (c .before .before .before .before .before .before .before .before .before .before .loop .names) (c .before .before .before .before .before .before .before .before .before .before .loop .words) (c .before .before .before .before .before .before .before .before .before .before .loop .inv) _ _ (c .before .before .before .before .before .before .write-step .result) (omega arith) (c .before .before .before .before .before .before .write-step .ensures))  -- loop-again
+    (λ c. let w = c .before .before .before .before .before .before in write-turn (w .before .before .before .before .loop .inv) (omega arith) (w .write-step .ensures))  -- loop-again
     (λ c. c .before .loop .inv .same-names)  -- same-length
     (λ c. c .before .loop .inv .same-words)  -- same-length-2
-    (λ c. write-end (c .before .before .before .before .before .args .path .now) (c .before .before .before .before .before .args .names .now) (c .before .before .before .before .before .args .words .now) (c .before .loop .at) (c .before .loop .used) (c .before .loop .row) (c .before .loop .names) (c .before .loop .words) (c .before .loop .inv) (omega arith)))  -- returns
+    (λ c. write-end (c .before .loop .inv) (omega arith)))  -- returns

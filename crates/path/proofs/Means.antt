@@ -1,0 +1,54 @@
+-- A path is answered exactly as specs/Meaning.antt says it in words. Assumes nothing.
+use Rattle.rules.proofs.Prelude.{_≡_, refl, sym, ap, _∙_, _↔_, Bool, true, false, cond, eqb, List, [], _∷_, ℕ, suc, arith, Answer, refuse, pass, stop, answered, refused}
+use borrow.Author.Tests.{eqb-true, eqb-false, ne-eqb}
+use Rattle.dictionary.specs.Dictionary as dictionary
+use Rattle.layer.specs.Meaning as object
+use Rattle.lookup.specs.ByName.{lookup}
+use Rattle.lookup.proofs.Found as lookup
+use Rattle.elements.specs.Element.{element}
+use Rattle.elements.specs.Meaning as list
+use Rattle.elements.proofs.Means as elements
+use Rattle.steps.specs.Path.{Step}
+use Rattle.steps.specs.Path.Step.{named, indexed}
+use Rattle.strides.specs.declared.Spot.{Spot}
+use Rattle.strides.specs.Stride.{single, asStep, stride}
+use Rattle.path.specs.Path.{handed, onward, walk}
+use Rattle.path.specs.Meaning.{Ends}
+use Rattle.path.specs.Meaning.Ends.{arrived, by-name, by-index, no-name, no-index, no-object, no-list, bad-object, bad-list}
+
+-- a refusal as a step's: 22 is told as 53
+as-step : (n c p : ℕ) (P : Answer → Type 0) → (c ≡ 22 → P (refuse 53 n)) → ((c ≡ 22 → ⊥) → P (refuse c p)) → P (asStep n (refuse c p))
+as-step n c p P kind other = go (eqb c 22) refl
+  where
+    go : (u : Bool) → eqb c 22 ≡ u → P (cond u (refuse 53 n) (refuse c p))
+    go true e = kind (eqb-true c 22 e)
+    go false e = other (eqb-false c 22 e)
+
+module _ (d v : List ℕ) (over : dictionary.checks d ≡ pass) where
+  -- what a step goes on with
+  abbrev Next : Type 0
+  Next = Spot → Answer
+
+  -- THE WALK ENDS AS IT SAYS
+  by-named : (n : ℕ) (at : Spot) (q : List ℕ) (xs : List Step) (next : Next) → ((to : Spot) → Ends d v (suc n) to xs (next to))
+      → Ends d v n at (named q ∷ xs) (onward (at .start) (stride d (handed v at) n (named q)) next)
+  unfolding stride
+  by-named n at q xs next more =
+      let P : Answer → Type 0 = λ r. Ends d v n at (named q ∷ xs) (onward (at .start) (asStep n r) next) in
+      lookup.by-answer d (handed v at) q P (λ k i a e f. by-name f (more _)) (λ none. no-name none) λ c p r.
+      as-step n c p (λ s. Ends d v n at (named q ∷ xs) (onward (at .start) s next)) (λ e. no-object (rw e at r)) (λ e. bad-object r e)
+
+  by-indexed : (n : ℕ) (at : Spot) (m : ℕ) (xs : List Step) (next : Next) → ((to : Spot) → Ends d v (suc n) to xs (next to))
+      → Ends d v n at (indexed m ∷ xs) (onward (at .start) (stride d (handed v at) n (indexed m)) next)
+  unfolding stride
+  by-indexed n at m xs next more =
+      let P : Answer → Type 0 = λ r. Ends d v n at (indexed m ∷ xs) (onward (at .start) (asStep n r) next) in
+      rw (answered (element (handed v at) m) over)
+      (elements.by-answer (handed v at) m P (λ a e f. by-index f (more _)) (λ none. no-index none) λ c p r.
+      as-step n c p (λ s. Ends d v n at (indexed m ∷ xs) (onward (at .start) s next)) (λ e. no-list (rw e at r)) (λ e. bad-list r e))
+
+  pub ends : (n : ℕ) (at : Spot) (xs : List Step) → Ends d v n at xs (walk d v n at xs)
+  unfolding walk
+  ends n at [] = arrived
+  ends n at (named q ∷ xs) = by-named n at q xs _ (λ to. ends (suc n) to xs)
+  ends n at (indexed m ∷ xs) = by-indexed n at m xs _ (λ to. ends (suc n) to xs)
