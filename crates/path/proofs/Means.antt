@@ -3,7 +3,8 @@ use Rattle.rules.proofs.Prelude.{_≡_, refl, sym, ap, _∙_, _↔_, Bool, true
 use borrow.Author.Tests.{eqb-true, eqb-false, ne-eqb}
 use Rattle.dictionary.specs.Dictionary as dictionary
 use Rattle.layer.specs.Meaning as object
-use Rattle.lookup.specs.ByName.{lookup}
+use Rattle.object.proofs.Refuses.{is-due}
+use Rattle.object.proofs.Fits.{checks-code}
 use Rattle.lookup.proofs.Found as lookup
 use Rattle.elements.specs.Element.{element}
 use Rattle.elements.specs.Meaning as list
@@ -52,3 +53,24 @@ module _ (d v : List ℕ) (over : dictionary.checks d ≡ pass) where
   ends n at [] = arrived
   ends n at (named q ∷ xs) = by-named n at q xs _ (λ to. ends (suc n) to xs)
   ends n at (indexed m ∷ xs) = by-indexed n at m xs _ (λ to. ends (suc n) to xs)
+
+  -- AND NO OTHER WAY
+  pub only : {n : ℕ} {at : Spot} {xs : List Step} {r : Answer} → Ends d v n at xs r → walk d v n at xs ≡ r
+  unfolding walk stride
+  only arrived = refl
+  only (by-name {at = at} {q = q} f more) = rw (lookup.found d (handed v at) q _ _ _ _ .1 f) (only more)
+  only (by-index {m = m} {at = at} f more) = rw (answered (element (handed v at) m) over, elements.found (handed v at) m _ _ .1 f) (only more)
+  only (no-name {at = at} {q = q} none) = rw (lookup.absent-is d (handed v at) q .1 none)
+  only (no-index {m = m} {at = at} none) = rw (answered (element (handed v at) m) over, elements.absent (handed v at) m .1 none)
+  only (no-object {p = p} {at = at} {q = q} r) = rw (lookup.refused-is d (handed v at) q 22 p (λ e. omega arith) .1 r)
+  only (no-list {m = m} {p = p} {at = at} r) =
+      rw (answered (element (handed v at) m) over, elements.refused (handed v at) m 22 p (λ e. omega arith) .1 r)
+  only (bad-object {c = c} {p = p} {at = at} {q = q} r other) =
+      let known = checks-code d (handed v at) (is-due d (handed v at) r) in
+      rw (lookup.refused-is d (handed v at) q c p (λ e. omega (arith, known)) .1 r, ne-eqb c 22 other)
+  only (bad-list {m = m} {c = c} {p = p} {at = at} r other) =
+      let known = elements.refusal-code (handed v at) r in
+      rw (answered (element (handed v at) m) over, elements.refused (handed v at) m c p (λ e. omega (arith, known)) .1 r, ne-eqb c 22 other)
+
+  pub walk-ends : (n : ℕ) (at : Spot) (xs : List Step) (r : Answer) → (walk d v n at xs ≡ r) ↔ Ends d v n at xs r
+  walk-ends n at xs r = (λ e. rw e at (ends n at xs), only)
