@@ -2,7 +2,7 @@
 ghost use Rattle.fields.specs.Steps.{Over};
 ghost use Rattle.object.specs.Promises.{CheckPromise};
 ghost use Rattle.object.specs.Steps.{CheckedOf, OpeningOf};
-use fields::Outcome;
+use columns::Outcome;
 use fields::check_rest;
 use layer::Head;
 use layer::Layer;

@@ -5,9 +5,9 @@ use Rattle.layer.specs.declared.Refusal.{Refusal}
 use Rattle.layer.specs.Object.{count, headRules, nameRules, offsetRules, checks}
 use Rattle.layer.specs.Steps.{stopOf}
 use Rattle.layer.proofs.Laws.{by-names}
-use Rattle.fields.specs.declared.Outcome.{Outcome}
-use Rattle.fields.specs.declared.Outcome.the-variants as outcome
-use Rattle.fields.specs.Steps.{foundOf}
+use Rattle.columns.specs.declared.Outcome.{Outcome}
+use Rattle.columns.specs.declared.Outcome.the-variants as outcome
+use Rattle.columns.specs.Steps.{foundOf}
 use Rattle.fields.proofs.check_rest.Statement.{statement}
 use Rattle.fields.proofs.check_rest.Tie as tie
 

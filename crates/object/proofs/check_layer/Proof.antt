@@ -1,7 +1,7 @@
 -- `object::check_layer` meets its contract: the header's checks, then the others. Assumes nothing.
 use Rattle.rules.proofs.Prelude.{sym, ap, _∙_, needs}
 use Rattle.layer.proofs.Laws.{by-head}
-use Rattle.fields.specs.Steps.{foundOf}
+use Rattle.columns.specs.Steps.{foundOf}
 use Rattle.object.proofs.check_layer.Statement.{statement}
 use Rattle.object.proofs.check_layer.Tie as tie
 

@@ -1,8 +1,8 @@
--- `fields::check_ids` meets its contract: the loop keeps that all fields before k pass. Assumes nothing.
+-- `columns::check_ids` meets its contract: the loop keeps that all fields before k pass. Assumes nothing.
 use Rattle.rules.proofs.Prelude.{_≡_, sym, _∙_, _+_, _-_, _≤_, _<_, arith, needs, first, each, pass, first-at, first-pass, each-none, each-more, each-stop}
 use Rattle.layer.specs.Object.{id, count as countOf, idRules}
-use Rattle.fields.proofs.check_ids.Statement.{statement}
-use Rattle.fields.proofs.check_ids.Tie as tie
+use Rattle.columns.proofs.check_ids.Statement.{statement}
+use Rattle.columns.proofs.check_ids.Tie as tie
 
 abbrev Inv-loop : tie.InvT-loop
 Inv-loop object l entries count before₀ k₀ before k = (k ≤ count) × (0 < k → before ≡ id object (k - 1)) × (first (each (idRules entries object) k) ≡ pass)

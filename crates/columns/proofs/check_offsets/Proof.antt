@@ -1,9 +1,9 @@
--- `fields::check_offsets` meets its contract: the loop keeps that all fields before k pass. Assumes nothing.
+-- `columns::check_offsets` meets its contract: the loop keeps that all fields before k pass. Assumes nothing.
 use Rattle.rules.proofs.Prelude.{_≡_, sym, _∙_, _-_, _≤_, arith, needs, first, each, pass, first-at, first-pass, each-none, each-more, each-stop}
 use Rattle.layer.specs.Object.{count as countOf, offsetRules}
 use Rattle.layer.proofs.Laws.{start-before, end-is}
-use Rattle.fields.proofs.check_offsets.Statement.{statement}
-use Rattle.fields.proofs.check_offsets.Tie as tie
+use Rattle.columns.proofs.check_offsets.Statement.{statement}
+use Rattle.columns.proofs.check_offsets.Tie as tie
 
 abbrev Inv-loop : tie.InvT-loop
 Inv-loop object l count length k₀ k = (k ≤ count) × (first (each (offsetRules object) k) ≡ pass)
