@@ -22,8 +22,8 @@ use Rattle.value.specs.declared.Value.{Value}
 use Rattle.value.specs.declared.Value.the-variants as value
 use Rattle.value.specs.Promises.{ReadPromise}
 use Rattle.layer.specs.Object as object
-use Rattle.tree.specs.declared.Verdict.{Verdict as TreeVerdict}
-use Rattle.tree.specs.declared.Verdict.the-variants as tree
+use Rattle.marked.specs.declared.Verdict.{Verdict as TreeVerdict}
+use Rattle.marked.specs.declared.Verdict.the-variants as tree
 use Rattle.tree.specs.Promises.{CheckPromise as TreePromise}
 use Rattle.tree.proofs.Pinned.{check-pinned as tree-pinned}
 use Rattle.host.specs.Worked.{Told, D, P, alone, unknown, inside, flow, roll, run}

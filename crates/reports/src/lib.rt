@@ -4,7 +4,7 @@ ghost use mathlib.Core.List.{[], _∷_};
 ghost use Rattle.list.specs.Answers.{refusalNumber as listNumber, refusalPlace as listPlace};
 ghost use Rattle.leaf.specs.Answers.{refusalNumber as leafNumber};
 ghost use Rattle.nodes.specs.Answers.{refusalNumber, refusalPlace};
-ghost use Rattle.tree.specs.Answers.{verdictNumbers};
+ghost use Rattle.marked.specs.Answers.{verdictNumbers};
 ghost use Rattle.strip.specs.Shapes.{wordsOf, treeShape, refusalWords};
 ghost use Rattle.strip.specs.Steps.{listOf};
 use refusals::of_object_refusal;
@@ -47,11 +47,11 @@ fn of_refusal(r: nodes::Refusal) -> Words
     }
 }
 
-pub fn of_tree(v: tree::Verdict) -> Words
+pub fn of_tree(v: marked::Verdict) -> Words
     ensures { λ w. ⌜ listOf w ≡ wordsOf treeShape (verdictNumbers v) ⌝ }
 {
     match v {
-        tree::Verdict::Refused { refusal: r, start } => from(start, of_refusal(r)),
-        tree::Verdict::Accepted { end } => answer(0, 0, 0, end),
+        marked::Verdict::Refused { refusal: r, start } => from(start, of_refusal(r)),
+        marked::Verdict::Accepted { end } => answer(0, 0, 0, end),
     }
 }

@@ -45,8 +45,8 @@ fn refuses(dict: &[u8], s: &[u8], start: usize, end: usize, to: usize, depth: us
     }
     let verdict = tree::check_at(dict, child, depth);
     match verdict {
-        tree::Verdict::Refused { .. } => true,
-        tree::Verdict::Accepted { .. } => false,
+        marked::Verdict::Refused { .. } => true,
+        marked::Verdict::Accepted { .. } => false,
     }
 }
 

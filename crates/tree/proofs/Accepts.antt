@@ -27,7 +27,7 @@ use Rattle.nodes.specs.Meaning.Good.{a-leaf, an-object, a-list}
 use Rattle.nodes.proofs.Laws.{wrong-fine, both-fine, here-pass, here-fine, layer-fine, fine-layer, tree-leaf, tree-object, tree-list, object-deep, list-deep, by-head}
 use Rattle.nodes.proofs.Inside.{count-is, start-is, end-of}
 use Rattle.nodes.proofs.Local.{good-measured}
-use Rattle.tree.proofs.Settled.{by-tree, all-levels, told-fine}
+use Rattle.marked.proofs.Settled.{by-tree, all-levels, told-fine}
 
 -- AN OBJECT'S LAYER, by its layout's numbers
 pub object-good : (d s : List ℕ) {w : Widths} → headOf s ≡ header.Object w → object.checks d s ≡ pass → Layer d s (count w s) (start w s) (end w s)

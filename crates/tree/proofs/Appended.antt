@@ -13,7 +13,7 @@ use Rattle.object.proofs.Appended.{Settled, unlifted, checks-kept}
 use Rattle.nodes.specs.Tree.{levels, verdict, verdictAt}
 use Rattle.nodes.specs.Meaning.{headOf}
 use Rattle.nodes.proofs.Inside.{object-measured}
-use Rattle.tree.proofs.Settled.{by-tree, refused-by, by-object, object-head}
+use Rattle.marked.proofs.Settled.{by-tree, refused-by, by-object, object-head}
 use Rattle.tree.proofs.Local.{verdict-local, tree-dictionary}
 
 module _ (d t v u : List ℕ) {w : Widths} (is : headOf v ≡ header.Object w) (dictionary-limit : length (d ++ t) ≤ limit) (value-limit : length (v ++ u) ≤ limit) where

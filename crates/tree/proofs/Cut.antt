@@ -22,7 +22,7 @@ use Rattle.nodes.specs.Tree.{tree, fieldEnd, verdict}
 use Rattle.nodes.specs.Meaning.{headOf}
 use Rattle.nodes.proofs.Laws.{fine-layer, tree-leaf, tree-object, here-stop}
 use Rattle.nodes.proofs.Inside.{widths-are, is-two, laid, object-measured}
-use Rattle.tree.proofs.Settled.{by-dictionary, by-tree, by-object, refused-by, all-levels}
+use Rattle.marked.proofs.Settled.{by-dictionary, by-tree, by-object, refused-by, all-levels}
 use Rattle.tree.proofs.Accepts.{accepts, is-accepted}
 
 -- THE DICTIONARY CUT

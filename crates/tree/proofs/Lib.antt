@@ -1,4 +1,3 @@
-pub mod Settled
 pub mod Accepts
 pub mod Refuses
 pub mod Local

@@ -12,7 +12,7 @@ use Rattle.list.specs.List as list
 use Rattle.nodes.specs.Tree.{fieldEnd, elementEnd, tree, levels, checksAt, verdictAt}
 use Rattle.nodes.proofs.Laws.{layered-alike, tree-leaf, tree-object, tree-list, object-deep, list-deep, by-head}
 use Rattle.nodes.proofs.Local as nodes
-use Rattle.tree.proofs.Settled.{by-dictionary, by-tree}
+use Rattle.marked.proofs.Settled.{by-dictionary, by-tree}
 
 -- BYTES AFTER THE VALUE
 module _ (d v u : List ℕ) (n : ℕ) (own : ownLength v ≡ Known n) (limited : length (v ++ u) ≤ limit) where

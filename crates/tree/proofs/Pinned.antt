@@ -9,10 +9,11 @@ use Rattle.leaf.specs.declared.Refusal.the-variants as leaf
 use Rattle.nodes.specs.declared.Refusal.{Refusal}
 use Rattle.nodes.specs.declared.Refusal.the-variants.{Layer, List as OfList, Leaf, TooDeep}
 use Rattle.nodes.specs.Answers.{refusalNumber, refusalPlace}
-use Rattle.tree.specs.declared.Verdict.{Verdict}
-use Rattle.tree.specs.declared.Verdict.the-variants as verdict
-use Rattle.tree.specs.Answers.{verdictNumbers}
-use Rattle.tree.specs.Promises.{CheckAtPromise, CheckPromise, CheckWithPromise}
+use Rattle.marked.specs.declared.Verdict.{Verdict}
+use Rattle.marked.specs.declared.Verdict.the-variants as verdict
+use Rattle.marked.specs.Answers.{verdictNumbers}
+use Rattle.marked.specs.Promises.{CheckAtPromise}
+use Rattle.tree.specs.Promises.{CheckPromise, CheckWithPromise}
 
 -- REFUSALS: number and place, read back
 abbrev leafBy : ℕ → Refusal

@@ -26,8 +26,8 @@ use Rattle.nodes.specs.Meaning.Due.{of-leaf, deep-object, deep-list, of-object,
 use Rattle.nodes.specs.Meaning.Refusal.{of-dictionary, too-long, of-value}
 use Rattle.nodes.proofs.Laws.{wrong-fine, here-stop, wrong-from, fine-from, fine-all, own-stops, own-passes, child-wrong, tree-leaf, tree-object, tree-list}
 use Rattle.nodes.proofs.Laws.{object-deep, list-deep, by-head}
-use Rattle.tree.proofs.Settled.{by-dictionary, by-tree, all-levels, told-wrong}
-use Rattle.tree.proofs.Settled as settled
+use Rattle.marked.proofs.Settled.{by-dictionary, by-tree, all-levels, told-wrong}
+use Rattle.marked.proofs.Settled as settled
 use Rattle.tree.proofs.Accepts.{object-good, is-good, is-accepted, checks-good, good-checks}
 
 -- WHICH ONE

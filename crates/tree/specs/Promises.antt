@@ -3,13 +3,8 @@ use mathlib.Core.Path.{_≡_}
 use mathlib.Core.List.{List}
 use Prim.Native.Nat.{ℕ}
 use Rattle.marks.specs.Marks.{cleared}
-use Rattle.nodes.specs.Tree.{verdictAt}
-use Rattle.tree.specs.declared.Verdict.{Verdict}
-use Rattle.tree.specs.Answers.{verdictNumbers}
-
--- of a value that is met at this depth
-abbrev pub CheckAtPromise : (depth : ℕ) → List ℕ → List ℕ → Verdict → Type 0
-CheckAtPromise depth d v r = verdictNumbers r ≡ verdictAt depth d v
+use Rattle.marked.specs.declared.Verdict.{Verdict}
+use Rattle.marked.specs.Promises.{CheckAtPromise}
 
 abbrev pub CheckPromise : List ℕ → List ℕ → Verdict → Type 0
 CheckPromise d v r = CheckAtPromise 0 d v r

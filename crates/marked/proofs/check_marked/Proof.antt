@@ -1,12 +1,12 @@
--- `tree::check_marked` meets its contract: the dictionary, the limit, and what is found of the whole as a value. Assumes nothing.
+-- `marked::check_marked` meets its contract: the dictionary, the limit, and what is found of the whole as a value. Assumes nothing.
 use Rattle.rules.proofs.Prelude.{ap, _∙_, _≤_, arith, needs, length}
 use Rattle.dictionary.specs.Limits.{limit}
 use Rattle.lengths.specs.Lengths.{bytesOf}
 use Rattle.nodes.specs.Tree.{levels}
 use Rattle.nodes.proofs.Marks.{remembers-none}
-use Rattle.tree.proofs.Settled.{by-dictionary, too-long, refused-by, found-bad, found-good}
-use Rattle.tree.proofs.check_marked.Statement.{statement}
-use Rattle.tree.proofs.check_marked.Tie as tie
+use Rattle.marked.proofs.Settled.{by-dictionary, too-long, refused-by, found-bad, found-good}
+use Rattle.marked.proofs.check_marked.Statement.{statement}
+use Rattle.marked.proofs.check_marked.Tie as tie
 
 pub check-marked-spec : {M : Type 1} → statement M
 unfolding levels limit

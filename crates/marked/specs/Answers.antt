@@ -3,8 +3,8 @@ use mathlib.Core.List.{[], _∷_}
 use Rattle.rules.specs.Rules.{Answer, accept}
 use Rattle.rules.specs.Rules.Answer.{gives}
 use Rattle.nodes.specs.Answers.{refusalNumber, refusalPlace}
-use Rattle.tree.specs.declared.Verdict.{Verdict}
-use Rattle.tree.specs.declared.Verdict.the-variants as verdict
+use Rattle.marked.specs.declared.Verdict.{Verdict}
+use Rattle.marked.specs.declared.Verdict.the-variants as verdict
 
 abbrev pub verdictNumbers : Verdict → Answer
 verdictNumbers (verdict.Refused r start) = gives (refusalNumber r) (start ∷ []) (refusalPlace r)

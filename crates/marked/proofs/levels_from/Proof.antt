@@ -1,8 +1,8 @@
--- `tree::levels_from` meets its contract. Assumes nothing.
+-- `marked::levels_from` meets its contract. Assumes nothing.
 use Rattle.rules.proofs.Prelude.{arith}
 use Rattle.nodes.specs.Tree.{levels}
-use Rattle.tree.proofs.levels_from.Statement.{statement}
-use Rattle.tree.proofs.levels_from.Tie as tie
+use Rattle.marked.proofs.levels_from.Statement.{statement}
+use Rattle.marked.proofs.levels_from.Tie as tie
 
 pub levels-from-spec : {M : Type 1} → statement M
 unfolding levels
