@@ -6,7 +6,7 @@ use lib.ListN.{drop-of-length-le}
 use lib.Seq.{drop-cons}
 use Rattle.brackets.specs.Brackets.{indexLimit, Number, oneMore, closes, content, firstOr, lastOr, sameQuotes, inQuotes, unquoted, digits, unsigned, someDigits, small, number}
 use Rattle.brackets.specs.Brackets.Number.{none, is}
-use Rattle.brackets.specs.Steps.{later, ByteOf, LookOf}
+use Rattle.brackets.specs.Steps.{later, ByteOf, LookOf, AfterPlus}
 
 -- One byte of what brackets hold.
 
@@ -172,27 +172,32 @@ pub digits-end : (s : List ℕ) (at value : ℕ) → content false (drop at s) �
 unfolding digits
 digits-end s at value e h = rw (e, lt-ltb value indexLimit h)
 
--- at least one digit, after a plus or none
+-- at least one digit
 pub some-none : (s : List ℕ) (at : ℕ) → content false (drop at s) ≡ [] → small (someDigits (content false (drop at s))) ≡ none
 unfolding someDigits
 some-none s at e = rw e
 
-pub number-none : (s : List ℕ) (at : ℕ) → content false (drop at s) ≡ [] → number (content false (drop at s)) ≡ none
-unfolding number unsigned someDigits
-number-none s at e = rw e
+pub some-byte : {s : List ℕ} {at byte size : ℕ} → ByteOf s at byte size → someDigits (content false (drop at s)) ≡ digits 0 (content false (drop at s))
+unfolding someDigits
+some-byte b = rw (b .content-is)
+
+-- after a plus or none
+pub no-plus-none : (s : List ℕ) (at : ℕ) → content false (drop at s) ≡ [] → at ≤ length s → AfterPlus s at at
+unfolding unsigned
+no-plus-none s at e h = record { is = rw e; inside = h }
 
 module _ {s : List ℕ} {at byte size : ℕ} (b : ByteOf s at byte size) where
-  pub some-byte : someDigits (content false (drop at s)) ≡ digits 0 (content false (drop at s))
-  unfolding someDigits
-  some-byte = rw (b .content-is)
+  pub plus-taken : byte ≡ 43 → AfterPlus s at (at + size)
+  unfolding unsigned
+  plus-taken e = record { is = rw (b .content-is, e); inside = b .inside }
 
-  pub number-plus : byte ≡ 43 → number (content false (drop at s)) ≡ small (someDigits (content false (drop (at + size) s)))
-  unfolding number unsigned
-  number-plus e = rw (b .content-is, e)
+  pub no-plus : (byte ≡ 43 → ⊥) → AfterPlus s at at
+  unfolding unsigned
+  no-plus e = record { is = rw (b .content-is, ne-eqb byte 43 e); inside = omega (arith, b .inside) }
 
-  pub number-plain : (byte ≡ 43 → ⊥) → number (content false (drop at s)) ≡ small (digits 0 (content false (drop at s)))
-  unfolding number unsigned someDigits
-  number-plain e = rw (b .content-is, ne-eqb byte 43 e)
+pub number-after : {s : List ℕ} {at r : ℕ} → AfterPlus s at r → number (content false (drop at s)) ≡ small (someDigits (content false (drop r s)))
+unfolding number
+number-after h = rw (h .is)
 
 -- it is below 2 to the 64th
 pub small-is : (x : Number) (n : ℕ) → small x ≡ is n → (x ≡ is n) × (n < indexLimit)

@@ -4,7 +4,7 @@ use mathlib.Core.Bool.{false}
 use mathlib.Core.List.{List, [], _∷_}
 use Prim.Native.Nat.{ℕ, zero, suc, _+_, _≤_, _<_}
 use lib.ListN.{length, drop}
-use Rattle.brackets.specs.Brackets.{Number, closes, content, lastOr}
+use Rattle.brackets.specs.Brackets.{Number, closes, content, lastOr, unsigned}
 use Rattle.brackets.specs.Brackets.Number.{none, is}
 use Rattle.brackets.specs.declared.Piece.{Piece}
 use Rattle.brackets.specs.declared.Piece.the-variants as piece
@@ -36,6 +36,11 @@ pub record LookOf (s : List ℕ) (from : ℕ) (l : Look) : Type 0 where
   pub last-is : l .last ≡ lastOr 0 (content false (drop from s))
   pub inside : from + l .size ≤ length s
   pub shut : 0 < l .size → l .count < l .size
+
+-- what stands from r on, after a plus or none
+pub record AfterPlus (s : List ℕ) (from r : ℕ) : Type 0 where
+  pub is : content false (drop r s) ≡ unsigned (content false (drop from s))
+  pub inside : r ≤ length s
 
 abbrev pub numberOf : Digits → Number
 numberOf digits.Neither = none

@@ -4,7 +4,7 @@ ghost use mathlib.Core.Bool.{false};
 ghost use Prim.Native.Nat.{_+_, _≤_, _<_};
 ghost use lib.ListN.{length, drop};
 ghost use Rattle.brackets.specs.Brackets.{content, small, digits, someDigits, number, inQuotes};
-ghost use Rattle.brackets.specs.Steps.{PieceOf, LookOf, numberOf};
+ghost use Rattle.brackets.specs.Steps.{PieceOf, LookOf, AfterPlus, numberOf};
 
 // One byte of what brackets hold, and how many bytes of the path it takes: two with a backslash.
 pub enum Piece {
@@ -126,22 +126,31 @@ fn some_digits(path: &[u8], from: usize) -> Digits
     }
 }
 
+// The place after a plus that brackets hold at `from`, or `from`.
+fn after_plus(path: &[u8], from: usize) -> usize
+    requires { ⌜ from ≤ length (now path) ⌝ }
+    ensures { λ r. ⌜ AfterPlus (now (path .entry)) from r ⌝ }
+{
+    let unit = unit_at(path, from);
+    match unit {
+        Piece::Never => from,
+        Piece::Close => from,
+        Piece::Byte { byte, size } => {
+            if byte == b'+' {
+                return from + size;
+            }
+            from
+        }
+    }
+}
+
 // The number that brackets hold, a plus before it or none.
 pub fn number_at(path: &[u8], from: usize) -> Digits
     requires { ⌜ from ≤ length (now path) ⌝ }
     ensures { λ r. ⌜ numberOf r ≡ number (content false (drop from (now (path .entry)))) ⌝ }
 {
-    let unit = unit_at(path, from);
-    match unit {
-        Piece::Never => Digits::Neither,
-        Piece::Close => Digits::Neither,
-        Piece::Byte { byte, size } => {
-            if byte == b'+' {
-                return some_digits(path, from + size);
-            }
-            digits_at(path, from)
-        }
-    }
+    let start = after_plus(path, from);
+    some_digits(path, start)
 }
 
 // Whether so many bytes, of which these are the first and the last, are a name in quotes.

@@ -8,7 +8,10 @@ pub is-quoted-spec : {M : Type 1} → statement M
 is-quoted-spec =
     tie.close
     (tie.spec
-    (λ c. rw (lt-leb 2 (c .before .args .count) (omega arith)))  -- returns
-    (λ c. rw (le-leb 2 (c .before .before .args .count) (omega arith), ne-eqb _ _ (c .if2 .taken)))  -- returns-2
-    (λ c. rw (le-leb 2 (c .before .before .before .args .count) (omega arith), eq-eqb _ _ (c .before .if2 .left), eq-eqb _ _ (c .if3 .taken)))  -- returns-3
-    (λ c. rw (le-leb 2 (c .before .before .before .args .count) (omega arith), eq-eqb _ _ (c .before .if2 .left), ne-eqb _ _ (c .if3 .left))))  -- returns-4
+    (λ c. let a = c .before .args in rw (lt-leb 2 (a .count) (omega arith)))  -- returns
+    (λ c. let a = c .before .before .args in
+    rw (le-leb 2 (a .count) (omega arith), ne-eqb (a .first) (a .last) (λ e. omega arith)))  -- returns-2
+    (λ c. let a = c .before .before .before .args in
+    rw (le-leb 2 (a .count) (omega arith), eq-eqb (a .first) (a .last) (omega arith), eq-eqb (a .first) 39 (omega arith)))  -- returns-3
+    (λ c. let a = c .before .before .before .args in
+    rw (le-leb 2 (a .count) (omega arith), eq-eqb (a .first) (a .last) (omega arith), ne-eqb (a .first) 39 (λ e. omega arith))))  -- returns-4

@@ -1,5 +1,5 @@
 -- `steps::is_end` meets its contract. Assumes nothing.
-use Rattle.rules.proofs.Prelude.{eq-eqb, ne-eqb}
+use Rattle.rules.proofs.Prelude.{eq-eqb, ne-eqb, arith}
 use Rattle.steps.proofs.is_end.Statement.{statement}
 use Rattle.steps.proofs.is_end.Tie as tie
 
@@ -7,6 +7,6 @@ pub is-end-spec : {M : Type 1} → statement M
 is-end-spec =
     tie.close
     (tie.spec
-    (λ c. rw (eq-eqb _ _ (c .if1 .taken)))  -- returns
-    (λ c. rw (ne-eqb _ _ (c .before .if1 .left), eq-eqb _ _ (c .if2 .taken)))  -- returns-2
-    (λ c. rw (ne-eqb _ _ (c .before .if1 .left), ne-eqb _ _ (c .if2 .left))))  -- returns-3
+    (λ c. rw (eq-eqb (c .before .args .b) 46 (omega arith)))  -- returns
+    (λ c. let b = c .before .before .args .b in rw (ne-eqb b 46 (λ e. omega arith), eq-eqb b 91 (omega arith)))  -- returns-2
+    (λ c. let b = c .before .before .args .b in rw (ne-eqb b 46 (λ e. omega arith), ne-eqb b 91 (λ e. omega arith))))  -- returns-3
