@@ -2,7 +2,8 @@
 use Rattle.rules.proofs.Prelude.{_≡_, refl, map, List, ℕ}
 use Rattle.width.specs.Limits.{u32Max}
 use Rattle.walk.specs.Walk.{upTo}
-use Rattle.chars.specs.Rfc3629.{leadOf, tailsOf, char, textUpTo}
+use Rattle.leads.specs.Table.{leadOf}
+use Rattle.chars.specs.Rfc3629.{tailsOf, char, textUpTo}
 use Rattle.brackets.specs.Brackets as brackets
 use Rattle.steps.specs.Path.{Parsed, plain, bracket, dotted, next, parse}
 use Rattle.writing.specs.Written.{weight, namesOf, wordsOf, counted, total, sizes}
