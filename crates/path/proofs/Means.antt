@@ -1,7 +1,11 @@
 -- A path is answered exactly as specs/Meaning.antt says it in words. Assumes nothing.
-use Rattle.rules.proofs.Prelude.{_≡_, refl, sym, ap, _∙_, _↔_, Bool, true, false, cond, eqb, List, [], _∷_, ℕ, suc, arith, Answer, refuse, pass, stop, answered, refused}
+use Rattle.rules.proofs.Prelude.{_≡_, refl, sym, ap, _∙_, _↔_, Bool, true, false, cond, eqb, List, [], _∷_, ℕ, suc, arith, Answer, refuse, pass, stop, by-meaning, answered}
+use Rattle.rules.proofs.Laws as rules
 use borrow.Author.Tests.{eqb-true, eqb-false, ne-eqb}
 use Rattle.dictionary.specs.Dictionary as dictionary
+use Rattle.metadata.proofs.Means as metadata
+use Rattle.metadata.proofs.Accepts.{all-pass}
+use Rattle.metadata.proofs.Refuses.{is-due as is-due-dictionary}
 use Rattle.layer.specs.Meaning as object
 use Rattle.object.proofs.Refuses.{is-due}
 use Rattle.object.proofs.Fits.{checks-code}
@@ -9,13 +13,18 @@ use Rattle.lookup.proofs.Found as lookup
 use Rattle.elements.specs.Element.{element}
 use Rattle.elements.specs.Meaning as list
 use Rattle.elements.proofs.Means as elements
-use Rattle.steps.specs.Path.{Step}
+use Rattle.steps.specs.Path.{Step, Parsed}
+use Rattle.steps.specs.Path.Parsed.{refused, steps}
 use Rattle.steps.specs.Path.Step.{named, indexed}
+use Rattle.parsing.specs.Parsing.{answer}
+use Rattle.parsing.specs.Meaning.{Accepted}
+use Rattle.parsing.proofs.Means as parsing
 use Rattle.strides.specs.declared.Spot.{Spot}
 use Rattle.strides.specs.Stride.{single, asStep, stride}
-use Rattle.path.specs.Path.{handed, onward, walk}
-use Rattle.path.specs.Meaning.{Ends}
+use Rattle.path.specs.Path.{whole, handed, onward, walk, asked, byParsed, byPath}
+use Rattle.path.specs.Meaning.{Ends, Says}
 use Rattle.path.specs.Meaning.Ends.{arrived, by-name, by-index, no-name, no-index, no-object, no-list, bad-object, bad-list}
+use Rattle.path.specs.Meaning.Says.{bad-path, bad-dictionary, walked}
 
 -- a refusal as a step's: 22 is told as 53
 as-step : (n c p : ℕ) (P : Answer → Type 0) → (c ≡ 22 → P (refuse 53 n)) → ((c ≡ 22 → ⊥) → P (refuse c p)) → P (asStep n (refuse c p))
@@ -74,3 +83,32 @@ module _ (d v : List ℕ) (over : dictionary.checks d ≡ pass) where
 
   pub walk-ends : (n : ℕ) (at : Spot) (xs : List Step) (r : Answer) → (walk d v n at xs ≡ r) ↔ Ends d v n at xs r
   walk-ends n at xs r = (λ e. rw e at (ends n at xs), only)
+
+-- THE WHOLE ANSWER, in words
+module _ (d v path names words : List ℕ) where
+  abbrev Told : Answer → Type 0
+  Told = Says d v path names words
+
+  steps-say : (xs : List Step) → Accepted path names words xs → Told (asked d v xs)
+  unfolding asked
+  steps-say xs a =
+      by-meaning Told _ (metadata.checks-mean d) (λ good. walked a good (ends d v (all-pass d _ _ good) 0 (whole v) xs)) (λ c p r. bad-dictionary a r)
+
+  pub says : Told (byPath d v path names words)
+  unfolding byPath
+  says = go (answer path names words) refl
+    where
+      go : (r : Parsed) → answer path names words ≡ r → Told (byParsed d v r)
+      go (refused c) e = bad-path (parsing.refuses path names words c .0 e)
+      go (steps xs) e = steps-say xs (parsing.accepts path names words xs .0 e)
+
+  -- and nothing else is
+  pub said : {r : Answer} → Told r → byPath d v path names words ≡ r
+  unfolding byPath asked
+  said (bad-path {c = c} r) = rw (parsing.refuses path names words c .1 r)
+  said (bad-dictionary {xs = xs} a r) = rw (parsing.accepts path names words xs .1 a) (rules.refused _ (is-due-dictionary d r))
+  said (walked {xs = xs} a good e) =
+      let over = all-pass d _ _ good in rw (parsing.accepts path names words xs .1 a) (rules.answered _ over ∙ only d v over e)
+
+  pub answers : (r : Answer) → (byPath d v path names words ≡ r) ↔ Told r
+  answers r = (λ e. rw e at says, said)

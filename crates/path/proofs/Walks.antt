@@ -3,6 +3,7 @@
 -- where it ended (`and-then`, `next-step`). Assumes nothing.
 use Rattle.rules.proofs.Prelude.{_≡_, refl, _∙_, Bool, true, false, cond, eqb, ne-eqb, List, [], _∷_, _++_, ℕ, suc, _+_, arith, length, add-zero}
 use Rattle.rules.proofs.Prelude.{Found, Answer, accept, gives, refuse, pass, stop, _otherwise_, answered, refused}
+use native.Mathlib.Nat.{zero-add}
 use Rattle.part.proofs.Laws.{part-whole}
 use Rattle.dictionary.specs.Dictionary as dictionary
 use Rattle.metadata.proofs.Fits.{checks-code}
@@ -33,11 +34,11 @@ module _ (d v : List ℕ) where
   Again n r = onward 0 (asStep n r) arrival ≡ asStep n r
 
   again : (n : ℕ) (x : Step) → Again n (single d v x)
-  again n x = by-single d v x (Again n) (λ k i a e. refl) λ c p. go (eqb c 22)
+  again n x = by-single d v x (Again n) (λ k i a e. rw (zero-add a, zero-add e)) λ c p. go c p (eqb c 22)
     where
-      go : {c p : ℕ} (u : Bool) → onward 0 (cond u (refuse 53 n) (gives c [] p)) arrival ≡ cond u (refuse 53 n) (gives c [] p)
-      go true = refl
-      go false = refl
+      go : (c p : ℕ) (u : Bool) → onward 0 (cond u (refuse 53 n) (gives c [] p)) arrival ≡ cond u (refuse 53 n) (gives c [] p)
+      go c p true = refl
+      go c p false = refl
 
   refused-first : (x : Step) {c p : ℕ} → dictionary.checks d ≡ stop c p → single d v x ≡ refuse c p
   unfolding lookupWithin
@@ -56,24 +57,25 @@ module _ (d v : List ℕ) where
   pub and-then : (n : ℕ) (at : Spot) (xs ys : List Step)
       → walk d v n at (xs ++ ys) ≡ onward 0 (walk d v n at xs) (λ next. walk d v (n + counted xs) next ys)
   unfolding walk counted
-  and-then n at [] ys = rw (add-zero n)
-  and-then n at (x ∷ xs) ys = go (stride d (handed v at) n x)
+  and-then n at [] ys = rw (add-zero n, zero-add (at .start), zero-add (at .end))
+  and-then n at (x ∷ xs) ys = go (stride d (handed v at) n x) (λ next. and-then (suc n) next xs ys)
     where
       more : n + (1 + counted xs) ≡ suc n + counted xs
       more = omega arith
 
-      go : (r : Answer) → onward (at .start) r (λ next. walk d v (suc n) next (xs ++ ys))
+      go : (r : Answer) → ((next : Spot) → walk d v (suc n) next (xs ++ ys) ≡ onward 0 (walk d v (suc n) next xs) (λ to. walk d v (suc n + counted xs) to ys))
+          → onward (at .start) r (λ next. walk d v (suc n) next (xs ++ ys))
           ≡ onward 0 (onward (at .start) r (λ next. walk d v (suc n) next xs)) (λ next. walk d v (n + (1 + counted xs)) next ys)
-      go (gives code [] place) = refl
-      go (gives code (k ∷ values) place) = rw more (and-then (suc n) (spotOf (at .start) (k ∷ values)) xs ys)
+      go (gives code [] place) later = refl
+      go (gives code (k ∷ values) place) later = rw more (later (spotOf (at .start) (k ∷ values)))
 
   -- ONE STEP MORE: where the steps before it ended, the single lookup in the bytes that they found, said from the whole's first byte
   pub next-step : (xs : List Step) (x : Step)
       → asked d v (xs ++ (x ∷ [])) ≡ onward 0 (asked d v xs) (λ at. onward (at .start) (asStep (counted xs) (single d (handed v at) x)) arrival)
-  unfolding asked walk stride
+  unfolding asked walk stride _otherwise_
   next-step xs x = go (dictionary.checks d)
     where
       go : (f : Found) → (f otherwise walk d v 0 (whole v) (xs ++ (x ∷ [])))
           ≡ onward 0 (f otherwise walk d v 0 (whole v) xs) (λ at. onward (at .start) (asStep (counted xs) (single d (handed v at) x)) arrival)
-      go pass = and-then 0 (whole v) xs (x ∷ [])
+      go pass = and-then 0 (whole v) xs (x ∷ []) ∙ rw (zero-add (counted xs))
       go (stop c p) = refl

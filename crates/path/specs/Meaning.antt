@@ -12,7 +12,7 @@ use Rattle.lookup.specs.Meaning as lookup
 use Rattle.elements.specs.Meaning as list
 use Rattle.steps.specs.Path.{Step}
 use Rattle.steps.specs.Path.Step.{named, indexed}
-use Rattle.parsing.specs.Meaning as path
+use Rattle.parsing.specs.Meaning as parsing
 use Rattle.strides.specs.declared.Spot.{Spot}
 use Rattle.path.specs.Path.{whole, handed, spotOf, arrival}
 
@@ -38,7 +38,7 @@ pub data Ends (d v : List ℕ) : (n : ℕ) → Spot → List Step → Answer →
 
 -- WHAT THE ANSWER SAYS: the path is refused; or it spells steps that have room, and the dictionary is refused, or the walk by them ends so
 pub data Says (d v path names words : List ℕ) : Answer → Type 0 where
-  bad-path : {c : ℕ} → path.Refusal path names words c → Says d v path names words (refuse c 0)
-  bad-dictionary : {c p : ℕ} {xs : List Step} → path.Accepted path names words xs → dictionary.Refusal d c p → Says d v path names words (refuse c p)
-  walked : {xs : List Step} {r : Answer} → path.Accepted path names words xs → dictionary.Dictionary d (count d) (end d)
+  bad-path : {c : ℕ} → parsing.Refusal path names words c → Says d v path names words (refuse c 0)
+  bad-dictionary : {c p : ℕ} {xs : List Step} → parsing.Accepted path names words xs → dictionary.Refusal d c p → Says d v path names words (refuse c p)
+  walked : {xs : List Step} {r : Answer} → parsing.Accepted path names words xs → dictionary.Dictionary d (count d) (end d)
       → Ends d v 0 (whole v) xs r → Says d v path names words r
