@@ -1,8 +1,8 @@
 -- What the whole call answers and leaves. Assumes nothing.
 use Rattle.rules.proofs.Prelude.{_≡_, refl, sym, ap, ap₂, _∙_, Bool, true, false, _||_, List, [], _∷_, _++_, ℕ, _+_, _*_, _≤_, _<_, arith, length, drop}
 use Rattle.rules.proofs.Prelude.{getD, sets, sets-eq, lt-ltb, le-ltb, ltb-true, ltb-false, eqb, ltb}
-use Rattle.steps.specs.Path.{Parsed, parse}
-use Rattle.writing.specs.Written.{namesOf, wordsOf, counted, total, sizes}
+use Rattle.steps.specs.Path.{Step, Parsed, parse}
+use Rattle.writing.specs.Written.{Fits, namesOf, wordsOf, counted, total, sizes}
 use Rattle.parsing.specs.Parsing.{leadingDot, stepsOf, lacking, answer}
 use Rattle.writing.specs.Written.Sizes.{bad, of}
 use Rattle.part.specs.Part.{part}
@@ -16,6 +16,8 @@ use Rattle.writing.specs.Steps.{Room, stepsIn}
 use Rattle.writing.proofs.Laws.{names-length, words-length}
 use Rattle.parsing.specs.declared.Refusal.{Refusal}
 use Rattle.parsing.specs.declared.Reading.the-variants as reading
+use Rattle.parsing.specs.Meaning.{Lacks}
+use Rattle.parsing.specs.Meaning.Lacks.{few-words, few-bytes, past-range}
 use Rattle.parsing.specs.Answers.{refusalNumber}
 use Rattle.parsing.specs.Promises.{ParsePromise}
 
@@ -39,9 +41,45 @@ unfolding leadingDot
 dot-some [] h = absurd (omega arith)
 dot-some (b ∷ s) h = refl
 
-neither : (t u : Bool) → (t || u) ≡ false → (t ≡ false) × (u ≡ false)
-neither true u e = let z : _≡_ {A = ℕ} 0 1 = cc in absurd (omega arith)
-neither false u e = (refl, e)
+-- ROOM, or none
+unfoldable pub Roomy : (names words : List ℕ) (xs : List Step) → Bool → Type 0
+Roomy names words xs true = Lacks names words xs
+Roomy names words xs false = Fits names words xs
+
+module _ (names words : List ℕ) (xs : List Step) where
+  pub roomy : Roomy names words xs (lacking (length names) (length words) (counted xs) (total xs))
+  unfolding Roomy
+  roomy = go (ltb (length words) (3 * counted xs)) refl (ltb (length names) (total xs)) refl (ltb u32Max (total xs)) refl
+    where
+      go : (u : Bool) → ltb (length words) (3 * counted xs) ≡ u → (v : Bool) → ltb (length names) (total xs) ≡ v
+          → (w : Bool) → ltb u32Max (total xs) ≡ w → Roomy names words xs (u || (v || w))
+      go true e v f w g = few-words (ltb-true _ _ e)
+      go false e true f w g = few-bytes (ltb-true _ _ f)
+      go false e false f true g = past-range (ltb-true _ _ g)
+      go false e false f false g = record { rows = ltb-false _ _ e; bytes = ltb-false _ _ f; range = ltb-false _ _ g }
+
+  no-lack : Lacks names words xs → Fits names words xs → ⊥
+  no-lack (few-words l) f = omega (arith, f .rows)
+  no-lack (few-bytes l) f = omega (arith, f .bytes)
+  no-lack (past-range l) f = omega (arith, f .range)
+
+  pub lacking-so : Lacks names words xs → lacking (length names) (length words) (counted xs) (total xs) ≡ true
+  unfolding Roomy
+  lacking-so l = go (lacking (length names) (length words) (counted xs) (total xs)) refl roomy
+    where
+      go : (u : Bool) → lacking (length names) (length words) (counted xs) (total xs) ≡ u → Roomy names words xs u
+          → lacking (length names) (length words) (counted xs) (total xs) ≡ true
+      go true e r = e
+      go false e r = absurd (no-lack l r)
+
+  pub fits-so : Fits names words xs → lacking (length names) (length words) (counted xs) (total xs) ≡ false
+  unfolding Roomy
+  fits-so f = go (lacking (length names) (length words) (counted xs) (total xs)) refl roomy
+    where
+      go : (u : Bool) → lacking (length names) (length words) (counted xs) (total xs) ≡ u → Roomy names words xs u
+          → lacking (length names) (length words) (counted xs) (total xs) ≡ false
+      go true e r = absurd (no-lack r f)
+      go false e r = e
 
 -- the checks in their order
 not-text : (s : List ℕ) → (Text s → ⊥) → textUpTo s < length s
@@ -82,20 +120,12 @@ module _ (s names words : List ℕ) where
         answer-good g = let o = is-of (parse 0 s) count sum f in rw (seen, e, o .0, ← o .1, ← o .2, g)
 
   pub room-for : (count sum : ℕ) → of count sum ≡ sizes (parse 0 s) → lacking (length names) (length words) count sum ≡ false → Room s names words
+  unfolding Roomy
   room-for count sum f g =
-      let o = is-of (parse 0 s) count sum f in
-      let p = neither (ltb (length words) (3 * count)) (ltb (length names) sum || ltb u32Max sum) g in
-      let q = neither (ltb (length names) sum) (ltb u32Max sum) (p .1) in
-      let w : 3 * count ≤ length words = ltb-false (length words) (3 * count) (p .0) in
-      let n : sum ≤ length names = ltb-false (length names) sum (q .0) in
-      let u : sum ≤ u32Max = ltb-false u32Max sum (q .1) in
-      record {
-        all = stepsIn (parse 0 s);
-        is = o .0;
-        names-room = omega (arith, o .2, n);
-        words-room = omega (arith, o .1, w);
-        fits = omega (arith, o .2, u);
-      }
+      let (is, k, t) = is-of (parse 0 s) count sum f in
+      let xs = stepsIn (parse 0 s) in
+      let none : lacking (length names) (length words) (counted xs) (total xs) ≡ false = rw (← k, ← t) g in
+      record { all = xs; is = is; room = rw none at (roomy names words xs) }
 
   -- what the writer leaves is the steps and then the rest
   pub names-written : Room s names words → sets names 0 (namesOf (stepsIn (parse 0 s))) ≡ namesOf (stepsIn (parse 0 s)) ++ drop (total (stepsIn (parse 0 s))) names
@@ -104,7 +134,7 @@ module _ (s names words : List ℕ) where
       let x : xs ≡ r .all = ap stepsIn (r .is) in
       let n : length (namesOf xs) ≡ total xs = names-length xs in
       let k : 0 + length (namesOf xs) ≡ total xs = omega (arith, n) in
-      let h : 0 + length (namesOf xs) ≤ length names = omega (arith, n, r .names-room, ap total x) in
+      let h : 0 + length (namesOf xs) ≤ length names = omega (arith, n, r .room .bytes, ap total x) in
       sets-eq (namesOf xs) names 0 h ∙ ap (λ (j : ℕ). namesOf xs ++ drop j names) k
 
   pub words-written : Room s names words → sets words 0 (wordsOf 0 (stepsIn (parse 0 s))) ≡ wordsOf 0 (stepsIn (parse 0 s)) ++ drop (3 * counted (stepsIn (parse 0 s))) words
@@ -113,7 +143,7 @@ module _ (s names words : List ℕ) where
       let x : xs ≡ r .all = ap stepsIn (r .is) in
       let n : length (wordsOf 0 xs) ≡ 3 * counted xs = words-length 0 xs in
       let k : 0 + length (wordsOf 0 xs) ≡ 3 * counted xs = omega (arith, n) in
-      let h : 0 + length (wordsOf 0 xs) ≤ length words = omega (arith, n, r .words-room, ap counted x) in
+      let h : 0 + length (wordsOf 0 xs) ≤ length words = omega (arith, n, r .room .rows, ap counted x) in
       sets-eq (wordsOf 0 xs) words 0 h ∙ ap (λ (j : ℕ). wordsOf 0 xs ++ drop j words) k
 
 -- THE PROMISE: a refusal leaves both buffers; the steps are written

@@ -1,9 +1,8 @@
 -- A path is accepted, with its steps, exactly when document 02, i), says so, and refused with a number exactly when that refusal is due
 -- (specs/Meaning.antt); and what the call answers, by its promise. Assumes nothing.
-use Rattle.rules.proofs.Prelude.{_≡_, refl, sym, ap, _∙_, _↔_, Bool, true, false, cond, _||_, List, [], _∷_, ℕ, _*_, arith, ltb, ltb-true, ltb-false}
+use Rattle.rules.proofs.Prelude.{_≡_, refl, sym, ap, _∙_, _↔_, Bool, true, false, cond, List, [], _∷_, ℕ, arith, ltb, ltb-true, ltb-false}
 use Rattle.rules.proofs.Prelude.{length, false-true}
 use borrow.Author.Tests.{eqb-true}
-use Rattle.width.specs.Limits.{u32Max}
 use Rattle.chars.specs.Rfc3629.{Text, textUpTo}
 use Rattle.chars.proofs.Laws.{text-whole, text-all}
 use Rattle.steps.specs.Path.{Step, Parsed, parse}
@@ -18,10 +17,9 @@ use Rattle.parsing.specs.Answers.{refusalNumber}
 use Rattle.parsing.specs.Promises.{ParsePromise}
 use Rattle.parsing.specs.ReadBack.{readBack, Laid}
 use Rattle.parsing.proofs.ReadBack.{laid, read-back}
-use Rattle.parsing.proofs.Laws.{is-bad, is-of, answer-text, answer-dot, answer-wrong, answer-room, answer-good}
-use Rattle.parsing.specs.Meaning.{LeadsWithDot, Fits, Lacks, Accepted, Refusal}
+use Rattle.parsing.proofs.Laws.{is-bad, is-of, answer-text, answer-dot, answer-wrong, answer-room, answer-good, Roomy, roomy, lacking-so, fits-so}
+use Rattle.parsing.specs.Meaning.{LeadsWithDot, Accepted, Refusal}
 use Rattle.parsing.specs.Meaning.LeadsWithDot.{dot}
-use Rattle.parsing.specs.Meaning.Lacks.{few-words, few-bytes, past-range}
 use Rattle.parsing.specs.Meaning.Refusal.{not-text, leading-dot, met, no-room}
 
 -- A LEADING DOT
@@ -33,46 +31,6 @@ dot-of (b ∷ s) e = rw (eqb-true b 46 e) dot
 dot-so : {s : List ℕ} → LeadsWithDot s → leadingDot s ≡ true
 unfolding leadingDot
 dot-so dot = refl
-
--- ROOM
-Roomy : (names words : List ℕ) (xs : List Step) → Bool → Type 0
-Roomy names words xs true = Lacks names words xs
-Roomy names words xs false = Fits names words xs
-
-module _ (names words : List ℕ) (xs : List Step) where
-  roomy : Roomy names words xs (lacking (length names) (length words) (counted xs) (total xs))
-  unfolding Roomy
-  roomy = go (ltb (length words) (3 * counted xs)) refl (ltb (length names) (total xs)) refl (ltb u32Max (total xs)) refl
-    where
-      go : (u : Bool) → ltb (length words) (3 * counted xs) ≡ u → (v : Bool) → ltb (length names) (total xs) ≡ v
-          → (w : Bool) → ltb u32Max (total xs) ≡ w → Roomy names words xs (u || (v || w))
-      go true e v f w g = few-words (ltb-true _ _ e)
-      go false e true f w g = few-bytes (ltb-true _ _ f)
-      go false e false f true g = past-range (ltb-true _ _ g)
-      go false e false f false g = record { rows = ltb-false _ _ e; bytes = ltb-false _ _ f; range = ltb-false _ _ g }
-
-  no-lack : Lacks names words xs → Fits names words xs → ⊥
-  no-lack (few-words l) f = omega (arith, f .rows)
-  no-lack (few-bytes l) f = omega (arith, f .bytes)
-  no-lack (past-range l) f = omega (arith, f .range)
-
-  lacking-so : Lacks names words xs → lacking (length names) (length words) (counted xs) (total xs) ≡ true
-  unfolding Roomy
-  lacking-so l = go (lacking (length names) (length words) (counted xs) (total xs)) refl roomy
-    where
-      go : (u : Bool) → lacking (length names) (length words) (counted xs) (total xs) ≡ u → Roomy names words xs u
-          → lacking (length names) (length words) (counted xs) (total xs) ≡ true
-      go true e r = e
-      go false e r = absurd (no-lack l r)
-
-  fits-so : Fits names words xs → lacking (length names) (length words) (counted xs) (total xs) ≡ false
-  unfolding Roomy
-  fits-so f = go (lacking (length names) (length words) (counted xs) (total xs)) refl roomy
-    where
-      go : (u : Bool) → lacking (length names) (length words) (counted xs) (total xs) ≡ u → Roomy names words xs u
-          → lacking (length names) (length words) (counted xs) (total xs) ≡ false
-      go true e r = absurd (no-lack r f)
-      go false e r = e
 
 -- WHAT AN ANSWER MEANS
 module _ (path names words : List ℕ) where

@@ -1,23 +1,18 @@
 -- What document 02, i), asks of a path and of the two buffers, in words: when it is accepted, and when each of the refusals 70 to 76 is due.
 -- proofs/Means.antt shows that `answer` of Parsing.antt says the same. Assumes nothing.
 use mathlib.Core.List.{List, _∷_}
-use Prim.Native.Nat.{ℕ, _*_, _≤_, _<_}
+use Prim.Native.Nat.{ℕ, _*_, _<_}
 use lib.ListN.{length}
 use Rattle.width.specs.Limits.{u32Max}
 use Rattle.chars.specs.Rfc3629.{Text}
 use Rattle.steps.specs.Path.{Step}
 use Rattle.steps.specs.Meaning.{Spells, Refused}
-use Rattle.writing.specs.Written.{counted, total}
+use Rattle.writing.specs.Written.{counted, total, Fits}
 
 pub data LeadsWithDot : List ℕ → Type 0 where
   dot : {s : List ℕ} → LeadsWithDot (46 ∷ s)
 
--- ROOM for the steps: three words each, and the bytes of their names, whose total is within the u32 range
-pub record Fits (names words : List ℕ) (xs : List Step) : Type 0 where
-  pub rows : 3 * counted xs ≤ length words
-  pub bytes : total xs ≤ length names
-  pub range : total xs ≤ u32Max
-
+-- NO ROOM for the steps: too few words, or bytes, or a total above the u32 range
 pub data Lacks (names words : List ℕ) (xs : List Step) : Type 0 where
   few-words : length words < 3 * counted xs → Lacks names words xs
   few-bytes : length names < total xs → Lacks names words xs

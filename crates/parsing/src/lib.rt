@@ -62,10 +62,12 @@ fn among(r: steps::Refusal) -> Refusal
 pub fn parse(path: &[u8], names: &mut [u8], words: &mut [u32]) -> Reading
     ensures { λ r. ⌜ ParsePromise (now (path .entry)) (now (names .entry)) (now (words .entry)) r (now (names .exit)) (now (words .exit)) ⌝ }
 {
-    if !texts::is_text(path, 0, path.len()) {
+    let text = texts::is_text(path, 0, path.len());
+    let dot = starts_with_dot(path);
+    if !text {
         return Reading::Refused(Refusal::NotUtf8);
     }
-    if starts_with_dot(path) {
+    if dot {
         return Reading::Refused(Refusal::LeadingDot);
     }
     let measure = writing::measure_steps(path);

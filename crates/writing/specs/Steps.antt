@@ -1,12 +1,12 @@
 -- What the functions of the crate answer each other, in the words of Path.antt and Written.antt. Assumes nothing.
 use mathlib.Core.Path.{_≡_}
 use mathlib.Core.List.{List, []}
-use Prim.Native.Nat.{ℕ, _+_, _*_, _≤_}
+use Prim.Native.Nat.{ℕ, _+_, _≤_}
 use lib.ListN.{length, drop, getD}
 use lib.Seq.{sets}
 use Rattle.width.specs.Limits.{u32Max}
 use Rattle.steps.specs.Path.{Step, Parsed, next, parse}
-use Rattle.writing.specs.Written.{Sizes, weight, textOf, rowOf, counted, total, sizes}
+use Rattle.writing.specs.Written.{Sizes, Fits, weight, textOf, rowOf, sizes}
 use Rattle.steps.specs.Path.Next.{wrong, takes}
 use Rattle.steps.specs.Path.Parsed.{refused, steps}
 use Rattle.steps.specs.Answers.{refusalNumber}
@@ -64,9 +64,7 @@ pub record WroteOf (s : List ℕ) (at used row : ℕ) (names words names′ word
 pub record Room (s names words : List ℕ) : Type 0 where
   pub all : List Step
   pub is : parse 0 s ≡ steps all
-  pub names-room : total all ≤ length names
-  pub words-room : 3 * counted all ≤ length words
-  pub fits : total all ≤ u32Max
+  pub room : Fits names words all
 
 abbrev pub stepsIn : Parsed → List Step
 stepsIn (refused code) = []

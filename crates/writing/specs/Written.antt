@@ -1,7 +1,8 @@
 -- What is written of steps: the bytes of the names, and three words a step (document 02, i). Assumes nothing.
 use mathlib.Core.List.{List, [], _∷_, _++_}
-use Prim.Native.Nat.{ℕ, _+_, _/_, _%_}
+use Prim.Native.Nat.{ℕ, _+_, _*_, _/_, _%_, _≤_}
 use lib.ListN.{length}
+use Rattle.width.specs.Limits.{u32Max}
 use Rattle.steps.specs.Path.{Step, Parsed}
 use Rattle.steps.specs.Path.Step.{named, indexed}
 use Rattle.steps.specs.Path.Parsed.{refused, steps}
@@ -37,6 +38,12 @@ counted (x ∷ xs) = 1 + counted xs
 unfoldable pub total : List Step → ℕ
 total [] = 0
 total (x ∷ xs) = weight x + total xs
+
+-- there is room for them: three words a step, the bytes of the names, and their total is within the u32 range
+pub record Fits (names words : List ℕ) (xs : List Step) : Type 0 where
+  pub rows : 3 * counted xs ≤ length words
+  pub bytes : total xs ≤ length names
+  pub range : total xs ≤ u32Max
 
 pub data Sizes : Type 0 where
   bad : ℕ → Sizes

@@ -25,7 +25,7 @@ write-step-spec =
     (λ c κs. let m = c .before .before .before .before .before .before in
     let r = rw (m .scan .given .1) at (m .before .before .step-at .ensures) in
     let d = due-room (m .before .before .before .before .before .before .pre .1) (plain-takes (m .scan .given .0 .0) (r .0) (r .1)) in
-    (d .1, omega arith, omega (arith, d), d .2))  -- put-row-requires
+    (d .1, omega arith, omega (arith, d), omega (arith, d)))  -- put-row-requires
     (λ c. search needs)  -- enum-known-scan-2
     (λ c κs. let m = c .before .before in
     let r = rw (m .scan2 .given .1) at (m .before .before .step-at .ensures) in
@@ -36,7 +36,7 @@ write-step-spec =
     (λ c κs. let m = c .before .before .before .before .before .before in
     let r = rw (m .scan2 .given .1) at (m .before .before .step-at .ensures) in
     let d = due-room (m .before .before .before .before .before .before .pre .1) (quoted-takes (m .scan2 .given .0 .0) (r .0) (r .1)) in
-    (d .1, omega arith, omega (arith, d), d .2))  -- put-row-requires-2
+    (d .1, omega arith, omega (arith, d), omega (arith, d)))  -- put-row-requires-2
     (λ c. search needs)  -- enum-known-scan-3
     (λ c κs. let m = c .before .before in
     let r = rw (m .scan3 .given .1) at (m .before .before .step-at .ensures) in
