@@ -12,12 +12,13 @@ use lib.ListN.{length, drop, getD, drop-of-length-le, length-append, length-drop
 use lib.Seq.{drop-cons, take-length}
 use Rattle.rules.specs.Rules.Test.{is}
 use Rattle.rules.proofs.Laws.{false-true, both, unless}
-use Rattle.chars.specs.declared.Lead.{Lead}
-use Rattle.chars.specs.declared.Lead.the-variants.{Bad, Seq}
-use Rattle.chars.specs.Rfc3629.{Tails, Char, Begins, leadOf, tailsOf, beginsBy, begins}
+use Rattle.leads.specs.declared.Lead.{Lead}
+use Rattle.leads.specs.declared.Lead.the-variants.{Bad, Seq}
+use Rattle.leads.specs.Table.{leadOf}
+use Rattle.chars.specs.Rfc3629.{Tails, Char, Begins, tailsOf, beginsBy, begins}
 use Rattle.chars.specs.Rfc3629.Tails.{end, next}
 use Rattle.chars.specs.Rfc3629.Char.{char-of}
-use Rattle.chars.proofs.Table.{followed}
+use Rattle.leads.proofs.Table.{followed}
 use Rattle.chars.proofs.Laws.{tails-length, tails-sound}
 
 -- A PROPER BEGINNING.

@@ -8,10 +8,11 @@ use native.Mathlib.Omega.{arith}
 use lib.ListN.{length, getD, length-append, length-drop, List·getD-append}
 use lib.Seq.{take-append-add, drop-append-add, getD-append-add, getD-drop}
 use Rattle.walk.specs.Walk.Items.{none, more}
-use Rattle.chars.specs.Rfc3629.{Tails, Char, Text, Cont, Bound}
+use Rattle.leads.specs.Table.{Cont}
+use Rattle.chars.specs.Rfc3629.{Tails, Char, Text, Bound}
 use Rattle.chars.specs.Rfc3629.Tails.{end, next}
 use Rattle.chars.specs.Rfc3629.Char.{char-of}
-use Rattle.chars.proofs.Table.{followed}
+use Rattle.leads.proofs.Table.{followed}
 
 tails-cont : {l h n : ℕ} {c : List ℕ} → Tails l h n c → 0x80 ≤ l → h ≤ 0xBF → (k : ℕ) → k < length c → Cont (getD c k 0)
 tails-cont end u v k p = absurd (omega arith)

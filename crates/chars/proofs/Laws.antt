@@ -13,12 +13,13 @@ use lib.Seq.{drop-cons, take-length}
 use Rattle.rules.proofs.Laws.{false-true, both}
 use Rattle.walk.specs.Walk.{Finds}
 use Rattle.walk.proofs.Laws.{upTo-le, upTo-sound, upTo-left, upTo-longest, upTo-whole}
-use Rattle.chars.specs.declared.Lead.{Lead}
-use Rattle.chars.specs.declared.Lead.the-variants.{Bad, Seq}
-use Rattle.chars.specs.Rfc3629.{Tails, Char, Text, LongestText, leadOf, tailsOf, charBy, char, textUpTo}
+use Rattle.leads.specs.declared.Lead.{Lead}
+use Rattle.leads.specs.declared.Lead.the-variants.{Bad, Seq}
+use Rattle.leads.specs.Table.{leadOf}
+use Rattle.chars.specs.Rfc3629.{Tails, Char, Text, LongestText, tailsOf, charBy, char, textUpTo}
 use Rattle.chars.specs.Rfc3629.Tails.{end, next}
 use Rattle.chars.specs.Rfc3629.Char.{char-of}
-use Rattle.chars.proofs.Table.{lead-is}
+use Rattle.leads.proofs.Table.{lead-is}
 
 -- The bytes after it.
 

@@ -1,4 +1,3 @@
-pub mod Table
 pub mod Laws
 pub mod Bounds
 pub mod Begins

@@ -1,39 +1,10 @@
 // Characters of UTF-8 by RFC 3629: the one that starts at a place, and whether what is left is the beginning of one.
 ghost use mathlib.Core.Path.{_≡_};
 ghost use lib.ListN.{drop};
-ghost use Rattle.chars.specs.Rfc3629.{leadOf, tailsOf};
+ghost use Rattle.chars.specs.Rfc3629.{tailsOf};
 ghost use Rattle.chars.specs.Promises.{CharAtPromise, BeginsAtPromise};
-
-// What a first byte asks: `rest` bytes after it, the first of those from `lo` to `hi`.
-pub enum Lead {
-    Bad,
-    Seq { lo: u8, hi: u8, rest: usize },
-}
-
-// A row of the RFC's table.
-fn seq(lo: u8, hi: u8, rest: usize) -> Lead
-    ensures { λ r. ⌜ r ≡ Lead.Seq lo hi rest ⌝ }
-{
-    Lead::Seq { lo, hi, rest }
-}
-
-// A decision on the first byte's range.
-fn classify(a: u8) -> Lead
-    ensures { λ r. ⌜ r ≡ leadOf a ⌝ }
-{
-    match a {
-        0x00..=0x7F => seq(0x80, 0xBF, 0),
-        0xC2..=0xDF => seq(0x80, 0xBF, 1),
-        0xE0 => seq(0xA0, 0xBF, 2),
-        0xE1..=0xEC => seq(0x80, 0xBF, 2),
-        0xED => seq(0x80, 0x9F, 2),
-        0xEE..=0xEF => seq(0x80, 0xBF, 2),
-        0xF0 => seq(0x90, 0xBF, 3),
-        0xF1..=0xF3 => seq(0x80, 0xBF, 3),
-        0xF4 => seq(0x80, 0x8F, 3),
-        _ => Lead::Bad,
-    }
-}
+use leads::Lead;
+use leads::classify;
 
 // Whether `rest` bytes stand at `from`, the first from `first` to `last` and the others from 0x80 to 0xBF.
 fn tails(s: &[u8], from: usize, first: u8, last: u8, rest: usize) -> bool

@@ -5,7 +5,8 @@ use mathlib.Core.Bool.{true}
 use mathlib.Core.List.{List}
 use Prim.Native.Nat.{ℕ, _+_, _-_, _≤_, _<_}
 use lib.ListN.{length, drop, getD}
-use Rattle.chars.specs.Rfc3629.{Text, Cont, Begins, LongestText}
+use Rattle.leads.specs.Table.{Cont}
+use Rattle.chars.specs.Rfc3629.{Text, Begins, LongestText}
 use Rattle.names.specs.Order.{Before}
 use Rattle.width.specs.Limits.{u32Max}
 use Rattle.dictionary.specs.Limits.{limit}

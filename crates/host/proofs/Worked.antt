@@ -2,7 +2,8 @@
 use Rattle.rules.proofs.Prelude.{_≡_, refl, map, first, each, _orElse_, _otherwise_}
 use Rattle.width.specs.Width.{le, bytesOf}
 use Rattle.walk.specs.Walk.{upTo}
-use Rattle.chars.specs.Rfc3629.{leadOf, tailsOf, char, textUpTo, begins}
+use Rattle.leads.specs.Table.{leadOf}
+use Rattle.chars.specs.Rfc3629.{tailsOf, char, textUpTo, begins}
 use Rattle.utf8.specs.Utf8.{isCut}
 use Rattle.names.specs.Order.{compareOf, below}
 use Rattle.names.specs.Search.{same, seek}

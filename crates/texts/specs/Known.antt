@@ -5,7 +5,8 @@ use mathlib.Core.List.{List}
 use Prim.Native.Nat.{ℕ, _≤_, _<_}
 use lib.ListN.{length, getD}
 use Rattle.part.specs.Part.{part}
-use Rattle.chars.specs.Rfc3629.{Text, Cont}
+use Rattle.leads.specs.Table.{Cont}
+use Rattle.chars.specs.Rfc3629.{Text}
 use Rattle.texts.specs.declared.Span.{Span}
 use Rattle.texts.specs.declared.Judged.{Judged}
 use Rattle.texts.specs.declared.Judged.the-variants as judged

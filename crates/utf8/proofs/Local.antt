@@ -9,9 +9,10 @@ use borrow.Author.Tests.{ltb-false, leb-true, leb-false, eqb-false, le-leb, lt-l
 use lib.Dec.{leb, ltb, eqb}
 use lib.ListN.{length, drop, getD}
 use Rattle.rules.proofs.Laws.{false-true, both, either, neither}
-use Rattle.chars.specs.declared.Lead.the-variants.{Seq}
-use Rattle.chars.specs.Rfc3629.{leadOf, tailsOf, Cont}
-use Rattle.chars.proofs.Table.{lead-is}
+use Rattle.leads.specs.declared.Lead.the-variants.{Seq}
+use Rattle.leads.specs.Table.{leadOf, Cont}
+use Rattle.chars.specs.Rfc3629.{tailsOf}
+use Rattle.leads.proofs.Table.{lead-is}
 use Rattle.chars.proofs.Laws.{tails-none, tails-in, char-seq}
 use Rattle.plain.specs.Steps.{Reached}
 use Rattle.plain.proofs.Laws.{text-go}

@@ -7,10 +7,10 @@ use native.Mathlib.Omega.{arith}
 use borrow.Author.Tests.{ltb-true, leb-true, le-leb}
 use lib.Dec.{leb, ltb}
 use Rattle.rules.proofs.Laws.{both}
-use Rattle.chars.specs.declared.Lead.{Lead}
-use Rattle.chars.specs.declared.Lead.the-variants.{Bad, Seq}
-use Rattle.chars.specs.Rfc3629.{Row, table, look, leadOf, Cont}
-use Rattle.chars.specs.Rfc3629.Row.{row}
+use Rattle.leads.specs.declared.Lead.{Lead}
+use Rattle.leads.specs.declared.Lead.the-variants.{Bad, Seq}
+use Rattle.leads.specs.Table.{Row, table, look, leadOf, Cont}
+use Rattle.leads.specs.Table.Row.{row}
 
 abbrev choose : Bool → Type 0 → Type 0 → Type 0
 choose true A B = A

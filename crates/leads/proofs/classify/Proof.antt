@@ -1,10 +1,10 @@
--- `chars::classify` meets its contract: each arm of the `match` is a row of the table, and what is in no arm is in no row. Assumes nothing.
+-- `leads::classify` meets its contract: each arm of the `match` is a row of the table, and what is in no arm is in no row. Assumes nothing.
 use mathlib.Core.Path.{refl, sym, _∙_}
 use native.Mathlib.Omega.{arith}
 use borrow.Author.Needs.{needs}
-use Rattle.chars.proofs.Table.{lead-is}
-use Rattle.chars.proofs.classify.Statement.{statement}
-use Rattle.chars.proofs.classify.Tie as tie
+use Rattle.leads.proofs.Table.{lead-is}
+use Rattle.leads.proofs.classify.Statement.{statement}
+use Rattle.leads.proofs.classify.Tie as tie
 
 pub classify-spec : {M : Type 1} → statement M
 classify-spec =
