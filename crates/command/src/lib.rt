@@ -24,7 +24,7 @@ fn show() {
     tell(b"the object");
     write_hex(p);
     tell(b"\n");
-    sentences::list(d, p);
+    described::list(d, p);
     show_found(d, p, b"flow");
     show_found(d, p, b"roll");
     show_found(d, p, b"rol");
@@ -96,8 +96,8 @@ fn find_in(dict: &[u8], object: &[u8], names: &[u8], ends: &[u32]) {
 
 fn answer(wish: Wish, dict: &[u8], object: &[u8], names: &[u8], ends: &[u32]) {
     match wish {
-        Wish::Check => sentences::check_object(dict, object),
-        Wish::List => sentences::list(dict, object),
+        Wish::Check => described::check_object(dict, object),
+        Wish::List => described::list(dict, object),
         Wish::Find => find_in(dict, object, names, ends),
         Wish::Tree => sentences::check_tree(dict, object),
     }

@@ -6,6 +6,7 @@ use ask::Answer;
 use print::say;
 use print::tell;
 use print::write_hex;
+use reasons::meaning_of_value;
 use slices::part_of;
 
 // So many of these after some words: one, or more or none.
@@ -50,19 +51,6 @@ fn read(bytes: &[u8], a: Answer) {
     }
 }
 
-// Why a value is refused, or a tree for the value.
-pub fn meaning(code: usize) -> bool {
-    match code {
-        50 => tell(b"it is cut short, or longer than the u32 range"),
-        51 => tell(b"its primitive type is unknown"),
-        52 => tell(b"it is an object or a list inside 32 others"),
-        54 => tell(b"its text is not UTF-8"),
-        60 => tell(b"the list is cut short"),
-        61 => tell(b"a sum in the list is above the u32 range"),
-        _ => tell(b"its offset is above the next one or the value region's length"),
-    }
-}
-
 // What the value at the start of `bytes` is read as, or why it is not.
 pub fn value(bytes: &[u8]) {
     let a = ask::value(bytes);
@@ -73,5 +61,5 @@ pub fn value(bytes: &[u8]) {
     }
     say(b", refused ", a.code);
     tell(b": ");
-    meaning(a.code);
+    meaning_of_value(a.code);
 }

@@ -1,9 +1,9 @@
--- `sentences::fields` is safe: three words are left at each turn, and the dictionary was checked. Assumes nothing.
+-- `described::fields` is safe: three words are left at each turn, and the dictionary was checked. Assumes nothing.
 use Prim.Native.Nat.{_-_, _≤_}
 use borrow.Author.Needs.{needs}
 use lib.ListN.{length}
-use Rattle.sentences.proofs.fields.Statement.{statement}
-use Rattle.sentences.proofs.fields.Tie as tie
+use Rattle.described.proofs.fields.Statement.{statement}
+use Rattle.described.proofs.fields.Tie as tie
 
 abbrev Inv-loop : tie.InvT-loop
 Inv-loop dict object words h at₀ at = at ≤ length words

@@ -1,0 +1,91 @@
+// Why something is refused, as words to standard output: what is here promises safety only.
+use print::say;
+use print::tell;
+
+// That one of the two is longer than any that the library reads.
+fn above_limit(what: &[u8]) -> bool {
+    tell(what);
+    say(b" is longer than ", dictionary::LIMIT);
+    tell(b" bytes")
+}
+
+fn meaning_of_dictionary(code: usize) -> bool {
+    match code {
+        10 => above_limit(b"the dictionary"),
+        11 => tell(b"the dictionary is empty"),
+        12 => tell(b"the dictionary's version is not 1"),
+        13 => tell(b"the dictionary is cut short"),
+        14 => tell(b"a sum in the dictionary is above the u32 range"),
+        15 => tell(b"the dictionary's first offset is not 0"),
+        16 => tell(b"not UTF-8"),
+        17 => tell(b"its offsets fall, pass the value region or cut a character"),
+        18 => tell(b"the dictionary is sorted, and it is not above the one before"),
+        19 => tell(b"the text ends inside a character; ask for the rest"),
+        _ => tell(b"the dictionary has no such entry"),
+    }
+}
+
+fn meaning_of_object(code: usize) -> bool {
+    match code {
+        20 => above_limit(b"the object"),
+        21 => tell(b"the object is empty"),
+        22 => tell(b"the basic type is not 2, that of an object"),
+        23 => tell(b"the object is cut short"),
+        24 => tell(b"a sum in the object is above the u32 range"),
+        25 => tell(b"its id is no entry of the dictionary"),
+        26 => tell(b"its name is not above the one before"),
+        27 => tell(b"its offset is above the value region's length"),
+        28 => tell(b"its child has no bytes"),
+        41 => tell(b"the answer has more words than there is room for"),
+        43 => tell(b"its child is of no known type, or its own length passes the object's end"),
+        _ => tell(b"its end falls or passes the bytes of the names"),
+    }
+}
+
+// Why a value is refused, or a tree for the value.
+pub fn meaning_of_value(code: usize) -> bool {
+    match code {
+        50 => tell(b"it is cut short, or longer than the u32 range"),
+        51 => tell(b"its primitive type is unknown"),
+        52 => tell(b"it is an object or a list inside 32 others"),
+        54 => tell(b"its text is not UTF-8"),
+        60 => tell(b"the list is cut short"),
+        61 => tell(b"a sum in the list is above the u32 range"),
+        _ => tell(b"its offset is above the next one or the value region's length"),
+    }
+}
+
+// Where it is, for those that have a place.
+fn write_place(code: usize, place: usize) {
+    match code {
+        16 | 19 => {
+            say(b" at byte ", place);
+            tell(b" of the value region");
+        }
+        17 | 18 => say(b" at entry ", place),
+        25..=28 | 43 => say(b" at field ", place),
+        45 => say(b" at name ", place),
+        62 => say(b" at element ", place),
+        _ => {}
+    }
+}
+
+fn meaning(code: usize) -> bool {
+    match code {
+        20..=28 | 41 | 43 | 45 => meaning_of_object(code),
+        50..=62 => meaning_of_value(code),
+        _ => meaning_of_dictionary(code),
+    }
+}
+
+pub fn why(code: usize, place: usize) {
+    say(b"refused ", code);
+    write_place(code, place);
+    tell(b": ");
+    meaning(code);
+}
+
+pub fn refused(code: usize, place: usize) {
+    why(code, place);
+    tell(b"\n");
+}
