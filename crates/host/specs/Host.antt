@@ -14,7 +14,7 @@ use Rattle.run.specs.Run.{name}
 use Rattle.run.specs.Meaning.{BadEnd}
 use Rattle.lookup.specs.ByName.{lookup}
 use Rattle.lookup.specs.Meaning.{Found, Absent}
-use Rattle.many.specs.Many.{rowOf}
+use Rattle.rows.specs.Rows.{rowOf}
 use Rattle.many.specs.Meaning as many
 use Rattle.many.specs.Meaning.{Answered, RefusedAfter, rowAt}
 use Rattle.listing.specs.Words.{rows}

@@ -14,7 +14,8 @@ use Rattle.lookup.specs.Meaning.{Found, Absent}
 use Rattle.lookup.specs.Answers.{lookupNumbers}
 use Rattle.lookup.specs.Promises.{GetPromise}
 use Rattle.lookup.proofs.Found as one
-use Rattle.many.specs.Many.{rowOf, row, rowWithin, rowsAfter}
+use Rattle.rows.specs.Rows.{rowOf}
+use Rattle.many.specs.Many.{row, rowWithin, rowsAfter}
 use Rattle.many.specs.Meaning.{Answered, rowAt, foundRow, absentRow}
 use Rattle.many.proofs.Rows.{row-five}
 use Rattle.many.proofs.Means.{words-answered}

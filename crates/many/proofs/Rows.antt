@@ -8,8 +8,9 @@ use Rattle.run.specs.Run.{name}
 use Rattle.layer.specs.Object.{count, fieldName, checks}
 use Rattle.layer.proofs.Laws.{in-region, end-is}
 use Rattle.lookup.specs.ByName.{found, lookup, lookupWithin}
-use Rattle.many.specs.Many.{rowOf, row, rowWithin}
-use Rattle.many.specs.Steps.{InLayer}
+use Rattle.rows.specs.Rows.{rowOf}
+use Rattle.many.specs.Many.{row, rowWithin}
+use Rattle.rows.specs.Steps.{InLayer}
 
 module _ (d o q : List ℕ) (passes : checks d o ≡ pass) where
   pub in-layer : (s : Sought) → s ≡ seek (fieldName d o) q (count o) → InLayer o s

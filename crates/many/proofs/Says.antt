@@ -11,7 +11,8 @@ use Rattle.lookup.specs.declared.Lookup.{Lookup}
 use Rattle.lookup.specs.Answers.{lookupNumbers}
 use Rattle.lookup.specs.Promises.{GetPromise}
 use Rattle.many.specs.declared.Lookups.the-variants as lookups
-use Rattle.many.specs.Many.{rowOf, row}
+use Rattle.rows.specs.Rows.{rowOf}
+use Rattle.many.specs.Many.{row}
 use Rattle.many.specs.Meaning.{Answered, NoRoom, RefusedAfter, rowAt}
 use Rattle.many.specs.Promises.{GetAllPromise}
 use Rattle.many.proofs.Means as many

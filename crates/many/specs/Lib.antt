@@ -2,4 +2,3 @@ pub mod Many
 pub mod Meaning
 pub mod Answers
 pub mod Promises
-pub mod Steps

@@ -2,21 +2,17 @@
 -- `ends` says where each ends. Assumes nothing.
 use mathlib.Core.List.{List, [], _∷_, _++_}
 use Prim.Native.Nat.{ℕ, _*_}
-use lib.ListN.{length, drop, getD}
+use lib.ListN.{length, drop}
 use Rattle.rules.specs.Rules.{Answer, Found, first, each, _orElse_, _otherwise_, unlessRefused}
-use Rattle.rules.specs.Rules.Answer.{gives}
 use Rattle.rules.specs.Rules.Rule.{_⇒_at_}
 use Rattle.rules.specs.Rules.Test.{_<?_}
 use Rattle.run.specs.Run as run
 use Rattle.dictionary.specs.Limits.{limit}
 use Rattle.layer.specs.Object.{checksWithin, layer}
 use Rattle.lookup.specs.ByName.{lookupWithin}
+use Rattle.rows.specs.Rows.{rowOf}
 
--- five words a name, in the order asked, what the lookup of that name alone answers: code (0 found, 1 absent), field, id, start, end; zeros on
--- absence
-abbrev pub rowOf : Answer → List ℕ
-rowOf (gives code values place) = code ∷ getD values 0 0 ∷ getD values 1 0 ∷ getD values 2 0 ∷ getD values 3 0 ∷ []
-
+-- a name's row, in the order asked
 unfoldable pub rowWithin : ℕ → (d o names ends : List ℕ) → ℕ → List ℕ
 rowWithin most d o names ends k = rowOf (lookupWithin most d o (run.name names ends k))
 

@@ -1,71 +1,21 @@
 // Lookup of many names at one check of the layer: five words a name.
 ghost use mathlib.Core.Path.{_≡_};
 ghost use mathlib.Core.List.{_++_};
-ghost use Prim.Native.Nat.{_+_, _*_, _≤_};
+ghost use Prim.Native.Nat.{_*_, _≤_};
 ghost use lib.ListN.{length, drop};
-ghost use lib.Seq.{sets};
 ghost use Rattle.rules.specs.Rules.{each};
 ghost use Rattle.run.specs.Meaning.{GoodEnds};
-ghost use Rattle.layer.specs.Steps.{LayerOf};
 ghost use Rattle.object.specs.Steps.{Opened};
-ghost use Rattle.lookup.specs.ByName.{found as foundAt};
-ghost use Rattle.lookup.specs.Steps.{soughtOf};
-ghost use Rattle.many.specs.Many.{rowOf, row};
+ghost use Rattle.many.specs.Many.{row};
 ghost use Rattle.many.specs.Promises.{GetAllPromise};
-ghost use Rattle.many.specs.Steps.{InLayer, wordsOf};
 use layer::Layer;
-use lookup::Search;
-use lookup::field_place;
+use rows::row_of;
+use rows::write_row;
 use spots::Four;
 use spots::Spot;
 use spots::onward;
 use spots::settle;
 use spots::spots;
-
-// What a name's five words say.
-struct Row {
-    code: u32,
-    field: u32,
-    id: u32,
-    start: u32,
-    end: u32,
-}
-
-fn row_of(object: &[u8], l: Layer, found: Search) -> Row
-    requires { ⌜ LayerOf (now object) l × InLayer (now object) (soughtOf found) ⌝ }
-    ensures { λ r. ⌜ wordsOf r ≡ rowOf (foundAt (now (object .entry)) (soughtOf found)) ⌝ }
-{
-    match found {
-        Search::Nowhere => Row {
-            code: 1,
-            field: 0,
-            id: 0,
-            start: 0,
-            end: 0,
-        },
-        Search::At(k) => {
-            let place = field_place(object, l, k);
-            Row {
-                code: 0,
-                field: k as u32,
-                id: layer::id_at(object, l, k) as u32,
-                start: place.start as u32,
-                end: place.end as u32,
-            }
-        }
-    }
-}
-
-fn write_row(words: &mut [u32], at: usize, row: Row)
-    requires { ⌜ at + 5 ≤ length (now words) ⌝ }
-    ensures { λ _. ⌜ now (words .exit) ≡ sets (now (words .entry)) at (wordsOf row) ⌝ }
-{
-    words[at] = row.code;
-    words[at + 1] = row.field;
-    words[at + 2] = row.id;
-    words[at + 3] = row.start;
-    words[at + 4] = row.end;
-}
 
 // The rows of all names.
 fn write_rows(

@@ -6,7 +6,8 @@ use Rattle.run.specs.Run.{begin as beginOf, name}
 use Rattle.run.proofs.Means.{next}
 use Rattle.spots.specs.Steps.{SpotsOf, Ahead}
 use Rattle.spots.specs.declared.Four.{Four}
-use Rattle.many.specs.Many.{rowOf, row}
+use Rattle.rows.specs.Rows.{rowOf}
+use Rattle.many.specs.Many.{row}
 use Rattle.many.proofs.Rows.{in-layer, answers, one-more}
 use Rattle.many.proofs.write_rows.Statement.{statement}
 use Rattle.many.proofs.write_rows.Tie as tie

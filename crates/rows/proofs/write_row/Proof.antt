@@ -1,7 +1,7 @@
--- `many::write_row` meets its contract: five words, one after another. Assumes nothing.
+-- `rows::write_row` meets its contract: five words, one after another. Assumes nothing.
 use Rattle.rules.proofs.Prelude.{_≡_, List, [], _∷_, ℕ, suc, _+_, arith, needs, length-set, set, sets}
-use Rattle.many.proofs.write_row.Statement.{statement}
-use Rattle.many.proofs.write_row.Tie as tie
+use Rattle.rows.proofs.write_row.Statement.{statement}
+use Rattle.rows.proofs.write_row.Tie as tie
 
 five : (w : List ℕ) (at a b c d e : ℕ) → set (set (set (set (set w at a) (at + 1) b) (at + 2) c) (at + 3) d) (at + 4) e ≡ sets w at (a ∷ b ∷ c ∷ d ∷ e ∷ [])
 five w at a b c d e =

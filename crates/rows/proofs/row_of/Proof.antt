@@ -1,12 +1,12 @@
--- `many::row_of` meets its contract: of a field that was found, its numbers, which fit 32 bits. Assumes nothing.
+-- `rows::row_of` meets its contract: of a field that was found, its numbers, which fit 32 bits. Assumes nothing.
 use Rattle.rules.proofs.Prelude.{ap, arith, needs}
 use Rattle.names.specs.Search.Sought.{here}
 use Rattle.width.specs.Limits.{u32Max}
 use Rattle.layer.proofs.Laws.{count-below}
 use Rattle.lookup.specs.Steps.{soughtOf}
-use Rattle.many.specs.Steps.{InLayer}
-use Rattle.many.proofs.row_of.Statement.{statement}
-use Rattle.many.proofs.row_of.Tie as tie
+use Rattle.rows.specs.Steps.{InLayer}
+use Rattle.rows.proofs.row_of.Statement.{statement}
+use Rattle.rows.proofs.row_of.Tie as tie
 
 -- the field that was found, and its child in the object
 inside : (c : tie.After-known-told) → let s = c .before .before .before .before in InLayer (s .args .object .now) (here (c .before .found .given .0 .0))

@@ -1,10 +1,10 @@
--- What the steps of the lookup of many names answer each other. Assumes nothing.
+-- What the steps of a row answer each other. Assumes nothing.
 use mathlib.Core.List.{List, [], _∷_}
 use Prim.Native.Nat.{ℕ, _+_, _≤_, _<_}
 use Rattle.layer.specs.Object.{count, offset, start, end}
 use Rattle.names.specs.Search.{Sought}
 use Rattle.names.specs.Search.Sought.{nowhere, here}
-use Rattle.many.specs.declared.Row.{Row}
+use Rattle.rows.specs.declared.Row.{Row}
 
 -- what was found is a field whose child lies in the object
 abbrev pub InLayer : List ℕ → Sought → Type 0
