@@ -1,5 +1,6 @@
 -- What a step finds lies in the value that is stepped into. Assumes nothing.
-use Rattle.rules.proofs.Prelude.{_≡_, refl, sym, ap, _∙_, Bool, true, false, cond, eqb, List, [], _∷_, ℕ, _≤_, arith, length, getD, Found, pass, stop, Answer, accept, gives, refuse, _otherwise_}
+use Rattle.rules.proofs.Prelude.{Bool, true, false, cond, eqb, List, ℕ, _≤_, arith, length}
+use Rattle.rules.proofs.Prelude.{Found, pass, stop, Answer, gives, refuse, _otherwise_}
 use Rattle.dictionary.specs.Dictionary as dictionary
 use Rattle.lookup.specs.ByName.{lookup, startOf, endOf}
 use Rattle.lookup.proofs.Found as lookup

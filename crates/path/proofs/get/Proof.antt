@@ -9,7 +9,8 @@ get-spec =
     tie.close
     (tie.spec
     (λ c κs. search needs) (λ c. search needs) (λ c. search needs)
-    (λ c κs. let p = c .before .before .before .before .before .before .before .before .before .parse .ensures in filled _ _ _ _ _ _ _ (rw (c .before .before .before .reading2 .given .1) at (p .says)) (p .names-left) (p .words-left))  -- ask-requires
+    (λ c κs. let p = c .before .before .before .before .before .before .before .before .before .parse .ensures in
+    filled _ _ _ _ _ _ _ (rw (c .before .before .before .reading2 .given .1) at (p .says)) (p .names-left) (p .words-left))  -- ask-requires
     (λ c. search needs) (λ c. search needs)
     (λ c. let p = c .before .before .before .before .before .before .before .parse .ensures in
     record {

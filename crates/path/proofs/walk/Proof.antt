@@ -12,10 +12,16 @@ abbrev μ-loop : tie.MeasureT-loop
 μ-loop dict h value names words count field₀ id₀ start₀ end₀ number₀ field id start end number = count - number
 
 -- what the step found, as the next turn has it
-next : (c : tie.After-struct-known Inv-loop μ-loop) → let a = c .before .before .before .before .before .before .before .before .before .before .before .before .args in let l = c .before .before .before .before .before .before .before .loop in let s = c .before .before .stride2 .given .0 .0 in
+next : (c : tie.After-struct-known Inv-loop μ-loop) →
+    let a = c .before .before .before .before .before .before .before .before .before .before .before .before .args in
+    let l = c .before .before .before .before .before .before .before .loop in
+    let s = c .before .before .stride2 .given .0 .0 in
     Come (a .dict .now) (a .value .now) (a .names .now) (a .words .now) (a .count) (l .number + 1)
     (record { field = s .field; id = s .id; start = l .start + s .start; end = l .start + s .end })
-next c = turn _ _ _ _ _ _ _ (c .before .before .before .before .before .before .before .loop .inv) (c .before .before .before .before .before .before .loop-test .taken) _ (rw (c .before .before .stride2 .given .1) at (c .before .before .before .before .take .ensures))
+next c =
+    let call = c .before .before .before .before in
+    let test = call .before .before in
+    turn _ _ _ _ _ _ _ (test .before .loop .inv) (test .loop-test .taken) _ (rw (c .before .before .stride2 .given .1) at (call .take .ensures))
 
 pub walk-spec : {M : Type 1} → statement M
 walk-spec =
@@ -28,9 +34,13 @@ walk-spec =
     (λ c. let s = stands _ _ _ _ _ _ _ (c .before .before .loop .inv) (c .before .loop-test .taken) in omega (arith, s .room))  -- mul-take
     (λ c κs. (c .before .before .before .before .before .before .before .pre .0, stands _ _ _ _ _ _ _ (c .before .before .loop .inv) (c .before .loop-test .taken)))  -- take-requires
     (λ c. search needs)
-    (λ c. ends _ _ _ _ _ _ _ (c .before .before .before .before .before .before .loop .inv) (c .before .before .before .before .before .loop-test .taken) _ _ (rw (c .before .stride .given .1) at (c .before .before .before .take .ensures)))  -- returns
+    (λ c. let call = c .before .before .before in
+    let test = call .before .before in
+    ends _ _ _ _ _ _ _ (test .before .loop .inv) (test .loop-test .taken) _ _ (rw (c .before .stride .given .1) at (call .take .ensures)))  -- returns
     (λ c. search needs)
-    (λ c. ends _ _ _ _ _ _ _ (c .before .before .before .before .before .loop .inv) (c .before .before .before .before .loop-test .taken) 1 0 (rw (c .enum-told .given .1) at (c .before .before .take .ensures)))  -- returns-2
+    (λ c. let call = c .before .before in
+    let test = call .before .before in
+    ends _ _ _ _ _ _ _ (test .before .loop .inv) (test .loop-test .taken) 1 0 (rw (c .enum-told .given .1) at (call .take .ensures)))  -- returns-2
     (λ c. search needs)
     (λ c. omega (arith, next c .inside))  -- add-end
     (λ c. omega (arith, next (c .before) .rises, next (c .before) .inside))  -- add-start

@@ -9,6 +9,7 @@ by-index-spec =
     tie.close
     (tie.spec
     (λ c κs. search needs) (λ c. search needs) (λ c κs. search needs) (λ c. search needs) (λ c. search needs)
-    (λ c. c .of-list .ensures ∙ ap (asStep (c .before .before .before .before .before .before .args .number)) (rw (c .before .before .found .given .1) at (c .before .before .before .before .get .ensures)))  -- returns
+    (λ c. let call = c .before .before .before .before in
+    c .of-list .ensures ∙ ap (asStep (call .before .before .args .number)) (rw (c .before .before .found .given .1) at (call .get .ensures)))  -- returns
     (λ c. ap (asStep (c .before .before .before .before .args .number)) (rw (c .enum-told .given .1) at (c .before .before .get .ensures)))  -- returns-2
     (λ c. ap (asStep (c .before .before .before .before .before .args .number)) (rw (c .before .found2 .given .1) at (c .before .before .before .get .ensures))))  -- returns-3
