@@ -8,5 +8,6 @@ pub mod Appended
 pub mod Values
 pub mod Cut
 pub mod Trees
+pub mod Paths
 pub mod Raised
 pub mod Lengths

@@ -71,7 +71,7 @@ module _ (d : List ℕ) where
   leaf-small n (no-such-type e) = omega arith
   leaf-small n (not-text e i m) = omega arith
 
-  list-small : (n : ℕ) {s : List ℕ} {w : Widths} {c p : ℕ} → count w s < start w s → list.Refusal w s c p → Small n c p 0
+  pub list-small : (n : ℕ) {s : List ℕ} {w : Widths} {c p : ℕ} → count w s < start w s → list.Refusal w s c p → Small n c p 0
   unfolding u32Max
   list-small n few (count-cut a) = omega arith
   list-small n few (offsets-sum a b) = omega arith
@@ -82,7 +82,7 @@ module _ (d : List ℕ) where
   list-small n few (not-rising h k j o) = omega (arith, h .counted .start-fits)
   list-small n few (past-region h k j r o) = omega (arith, h .counted .start-fits)
 
-  object-small : (n : ℕ) {s : List ℕ} {c p : ℕ} → object.Refusal d s c p → Small n c p 0
+  pub object-small : (n : ℕ) {s : List ℕ} {c p : ℕ} → object.Refusal d s c p → Small n c p 0
   object-small n {s} r = let b = checks-code d s (is-due d s r) in omega arith
 
   -- where a field's child starts, and an element

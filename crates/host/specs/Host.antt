@@ -3,9 +3,10 @@
 use mathlib.Core.Path.{_≡_}
 use mathlib.Core.Logic.{_↔_}
 use mathlib.Core.List.{List, [], _∷_, _++_}
-use Prim.Native.Nat.{ℕ, _*_, _/_, _%_, _≤_, _<_}
+use Prim.Native.Nat.{ℕ, _+_, _*_, _/_, _%_, _≤_, _<_}
 use lib.ListN.{length, drop}
 use Rattle.width.specs.Width.{le}
+use Rattle.rules.specs.Rules.{Answer}
 use Rattle.part.specs.Part.{part}
 use Rattle.dictionary.specs.Dictionary.{emptyBytes}
 use Rattle.dictionary.specs.Meaning as dictionary
@@ -29,7 +30,12 @@ use Rattle.value.specs.Reading.{payloadStart}
 use Rattle.value.specs.Meaning.{Begins, OfType, Placed, Reads}
 use Rattle.nodes.specs.Meaning as tree
 use Rattle.marks.specs.Marks.{cleared}
-use Rattle.strip.specs.Shapes.{refusalWords, stripBytes}
+use Rattle.steps.specs.Path.{Step}
+use Rattle.writing.specs.Written.{counted, total}
+use Rattle.parsing.specs.Meaning as parsing
+use Rattle.parsing.specs.ReadBack.{Laid}
+use Rattle.path.specs.Meaning.{Says}
+use Rattle.strip.specs.Shapes.{refusalWords, wordsOf, lookupShape, stripBytes}
 
 -- WHAT CODE, NUMBER, ID, START, END AND PLACE SAY, call by call
 
@@ -95,6 +101,10 @@ pub data TreeSays (d v : List ℕ) : List ℕ → Type 0 where
   accepted : {e : ℕ} → tree.GoodTree d v → ownLength v ≡ Known e → TreeSays d v (0 ∷ 0 ∷ 0 ∷ 0 ∷ e ∷ 0 ∷ [])
   refused : {c p a : ℕ} → tree.Refusal d v c p a → TreeSays d v (c ∷ 0 ∷ 0 ∷ a ∷ 0 ∷ p ∷ [])
 
+-- of a path: what its answer says, as a lookup's words
+pub data PathSays (d v path names words : List ℕ) : List ℕ → Type 0 where
+  says : {r : Answer} → Says d v path names words r → PathSays d v path names words (wordsOf lookupShape r)
+
 -- WHAT A CALL TELLS
 
 -- word k of a strip, as the host reads it
@@ -124,6 +134,20 @@ pub record FillsAll (d o names ends words : List ℕ) (code : ℕ) (wordsAfter :
 pub record Clears (marks : List ℕ) (code : ℕ) (marksAfter : List ℕ) : Type 0 where
   pub kept : code ≡ 40 → marksAfter ≡ marks
   pub none-left : (code ≡ 40 → ⊥) → marksAfter ≡ cleared marks
+
+-- the two buffers lent for a path: as they were with 40 and with the path's own refusals; with any other code they have its steps, and the rest
+-- of both stays
+pub record Steps (path names words names′ words′ : List ℕ) : Type 0 where
+  pub all : List Step
+  pub accepted : parsing.Accepted path names words all
+  pub stand : Laid names′ words′ 0 all
+  pub names-rest : drop (total all) names′ ≡ drop (total all) names
+  pub words-rest : drop (3 * counted all) words′ ≡ drop (3 * counted all) words
+
+pub record FillsSteps (path names words : List ℕ) (code : ℕ) (names′ words′ : List ℕ) : Type 0 where
+  pub no-strip : code ≡ 40 → (names′ ≡ names) × (words′ ≡ words)
+  pub kept : 70 ≤ code → (names′ ≡ names) × (words′ ≡ words)
+  pub filled : (code ≡ 40 → ⊥) → code < 70 → Steps path names words names′ words′
 
 -- the empty dictionary's code and room
 pub record EmptyTells (room : List ℕ) (code : ℕ) (after : List ℕ) : Type 0 where
