@@ -7,11 +7,12 @@ use lib.ListN.{length, take, drop}
 
 -- IN BRACKETS, a backslash takes the next byte as it is; the first other ] closes
 
--- how many bytes up to the closing bracket, and with it; 0 where none closes. `taken`: a backslash stands before
+-- one byte further on; none stays none
 abbrev pub oneMore : ℕ → ℕ
 oneMore zero = 0
 oneMore (suc n) = suc (suc n)
 
+-- how many bytes up to the closing bracket, and with it; 0 where none closes. `taken`: a backslash stands before
 unfoldable pub closes : (taken : Bool) → List ℕ → ℕ
 closes taken [] = 0
 closes true (b ∷ s) = oneMore (closes false s)

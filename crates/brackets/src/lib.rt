@@ -13,6 +13,7 @@ pub enum Piece {
     Byte { byte: u8, size: usize },
 }
 
+// The byte that stands at `at`, by its backslash or without; none where the brackets close there, or never do.
 pub fn unit_at(path: &[u8], at: usize) -> Piece
     ensures { λ r. ⌜ PieceOf (now (path .entry)) at r ⌝ }
 {

@@ -17,7 +17,7 @@ use Rattle.writing.specs.declared.Wrote.{Wrote}
 use Rattle.writing.specs.declared.Measure.{Measure}
 use Rattle.writing.specs.declared.Measure.the-variants as measure
 
--- what it takes
+-- what the step that the byte at `at` starts takes: `len` bytes of the names, and `more` of the path after that byte
 pub record TakesOf (s : List ℕ) (at len more : ℕ) : Type 0 where
   pub step : Step
   pub is : next (getD s at 0) (drop (at + 1) s) ≡ takes step more

@@ -39,12 +39,13 @@ unfoldable pub total : List Step → ℕ
 total [] = 0
 total (x ∷ xs) = weight x + total xs
 
--- there is room for them: three words a step, the bytes of the names, and their total is within the u32 range
+-- THERE IS ROOM for them: three words a step, the bytes of the names, and their total is within the u32 range
 pub record Fits (names words : List ℕ) (xs : List Step) : Type 0 where
   pub rows : 3 * counted xs ≤ length words
   pub bytes : total xs ≤ length names
   pub range : total xs ≤ u32Max
 
+-- WHAT IS ANSWERED: a refusal, or how many steps and the total
 pub data Sizes : Type 0 where
   bad : ℕ → Sizes
   of : (count total : ℕ) → Sizes

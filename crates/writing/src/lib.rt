@@ -33,6 +33,7 @@ fn extent_at(path: &[u8], at: usize) -> Extent
     }
 }
 
+// What all steps take, or the first refusal met.
 pub enum Measure {
     Wrong(Refusal),
     Good { count: usize, total: usize },
@@ -98,6 +99,7 @@ fn copy_content(path: &[u8], from: usize, len: usize, names: &mut [u8], to: usiz
     }
 }
 
+// The three words of a step.
 fn put_row(words: &mut [u32], row: usize, kind: usize, first: usize, second: usize)
     requires { ⌜ (row + 3 ≤ length (now words)) × (kind ≤ 1) × (first ≤ u32Max) × (second ≤ u32Max) ⌝ }
     ensures { λ _. ⌜ now (words .exit) ≡ sets (now (words .entry)) row (kind ∷ first ∷ second ∷ []) ⌝ }
@@ -107,6 +109,7 @@ fn put_row(words: &mut [u32], row: usize, kind: usize, first: usize, second: usi
     words[row + 2] = second as u32;
 }
 
+// What a written step took: bytes of the names, and bytes of the path after its first.
 struct Wrote {
     len: usize,
     more: usize,
