@@ -54,13 +54,11 @@ impl Walk<'_> {
                 return refused(number, 0);
             }
         };
-        let is_read = self.dictionary.code == OK;
-        if self.is(Fault::ValueBeforeDictionary) && !is_read && self.value.is_empty() {
-            return refused(21, 0);
-        }
-        let strip = match is_read || steps.is_empty() && self.is(Fault::EmptyPathUnchecked) {
-            true => self.followed(&steps),
-            false => self.dictionary,
+        let strip = match (self.dictionary.code, self.fault) {
+            (OK, _) => self.followed(&steps),
+            (_, Some(Fault::EmptyPathUnchecked)) if steps.is_empty() => self.followed(&steps),
+            (_, Some(Fault::ValueBeforeDictionary)) if self.value.is_empty() => refused(21, 0),
+            _ => self.dictionary,
         };
         let leaves = match strip.code {
             10..=19 => self.is(Fault::LeavesUnderDictionary),
@@ -81,17 +79,14 @@ impl Walk<'_> {
         let steps = self.steps()?;
         let total: usize = steps.iter().map(|step| step.name().len()).sum();
         let needed = WORDS_PER_STEP * steps.len();
-        let fits = match self.fault {
-            Some(Fault::WantsMoreWords) => needed < words || needed == 0,
-            Some(Fault::WantsPathsBytes) => needed <= words && self.path.len() <= bytes,
+        let has_room = match self.fault {
+            Some(Fault::WantsMoreWords) if 0 < needed && needed == words => false,
+            Some(Fault::WantsPathsBytes) if bytes < self.path.len() => false,
             Some(Fault::WritesWhatFits) => true,
             Some(Fault::RoomAfterDictionary) if self.dictionary.code != OK => true,
-            _ => needed <= words,
+            _ => needed <= words && total <= bytes && u32::try_from(total).is_ok(),
         };
-        let has_bytes = total <= bytes || self.is(Fault::WritesWhatFits);
-        let has_bytes =
-            has_bytes || self.is(Fault::RoomAfterDictionary) && self.dictionary.code != OK;
-        match fits && has_bytes && u32::try_from(total).is_ok() {
+        match has_room {
             true => Ok(steps),
             false => Err(76),
         }

@@ -437,9 +437,11 @@ fn paths_that_are_taken_besides() {
     }
 }
 
-/// What stands at a path over document 01's dictionary, by start and end, or number and place; nothing
-/// where it is absent.
-fn ours(value: &[u8], text: &str) -> Result<Option<(usize, usize)>, (u32, u32)> {
+/// Start and end of what stands at a path, or nothing where it is absent; number and place of a refusal.
+type Stands = Result<Option<(usize, usize)>, (u32, u32)>;
+
+/// What stands at a path over document 01's dictionary.
+fn ours(value: &[u8], text: &str) -> Stands {
     let found = lichenhusk::path(SORTED, value, text);
     let found = found.map_err(|refusal| (refusal.number(), refusal.place()))?;
     Ok(found.map(|found| (found.start, found.start + found.bytes.len())))
@@ -453,7 +455,7 @@ fn theirs(value: &[u8], text: &str) -> Option<bool> {
 }
 
 /// Both answers.
-fn both(value: &[u8], text: &str) -> (Result<Option<(usize, usize)>, (u32, u32)>, Option<bool>) {
+fn both(value: &[u8], text: &str) -> (Stands, Option<bool>) {
     (ours(value, text), theirs(value, text))
 }
 
