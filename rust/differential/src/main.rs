@@ -90,7 +90,7 @@ fn short(options: &Options) -> Settings {
         part: Part::All,
         every: 3,
         telling: 7,
-        limit: Duration::from_secs(50),
+        limit: Duration::from_secs(58),
         patience: PATIENCE,
     }
 }
