@@ -5,8 +5,9 @@
  * "metadata") and a value. These functions read the dictionary, one layer of an
  * object, and one value: its number, or where its bytes are. They do not look
  * into the object's children, but for how long each is, where the fields are
- * listed; a child that is handed to lichenhusk_value is read as any value. One
- * function, lichenhusk_tree, checks a value with all that is below it.
+ * listed; a child that is handed to lichenhusk_value is read as any value. Two
+ * functions go further: lichenhusk_tree checks a value with all that is below it,
+ * and lichenhusk_path follows a path such as site.meter[2] into one.
  *
  * Every function takes whatever bytes its buffers hold, keeps nothing,
  * allocates nothing and ends. It reads only the buffers that it is handed, and
@@ -19,8 +20,8 @@
  *   - A buffer is a pointer and a length. The pointer must not be null, not
  *     even for a length of 0: any other pointer will do there, say the address
  *     of some variable.
- *   - A buffer that is written (strip, words, marks, room) shares no memory
- *     with another buffer of the same call.
+ *   - A buffer that is written (strip, words, marks, names of a path, room)
+ *     shares no memory with another buffer of the same call.
  *   - words and ends are aligned as a uint32_t is.
  *
  * THE STRIP. The answer goes to the first LICHENHUSK_STRIP_BYTES of a buffer of
@@ -113,6 +114,8 @@ enum {
     LICHENHUSK_WORDS_PER_FIELD = 3,
     /* The words for each of many names: code, field, id, start, end. */
     LICHENHUSK_WORDS_PER_NAME = 5,
+    /* The words for each step of a path: 0, start, end; or 1, low, high. */
+    LICHENHUSK_WORDS_PER_STEP = 3,
     /* The bytes of the empty dictionary. */
     LICHENHUSK_EMPTY_BYTES = 3,
     /* The most objects and lists that may stand in one another in a tree. */
@@ -140,12 +143,14 @@ enum lichenhusk_word_index {
  * field first, and when all are done, 27 and 28 of each. Of a listing, 43 comes
  * after these, and 41 last. A value alone gets 50 or 51 and no other, but for 40.
  * Of a tree, an object or a list has its own checks before its children, and its
- * children come in their order, each with all that is below it.
+ * children come in their order, each with all that is below it. Of a path, 70 to
+ * 76 come before the dictionary, and then the value is checked step by step.
  */
 enum lichenhusk_code {
     /* Accepted, found, or written. */
     LICHENHUSK_OK = 0,
-    /* All is well, and the object has no field of that name. */
+    /* All is well, and the object has no field of that name, or the list no such
+     * element. */
     LICHENHUSK_ABSENT = 1,
 
     /* The dictionary is longer than LICHENHUSK_LIMIT. */
@@ -226,18 +231,41 @@ enum lichenhusk_code {
     /* Of a tree: an object or a list inside LICHENHUSK_LEVELS others. Checked
      * before anything else of it. */
     LICHENHUSK_VALUE_TOO_DEEP = 52,
+    /* Of a path: a step goes into a value of another kind, a name into what is no
+     * object or an index into what is no list. The place: the step, counted from
+     * 0. */
+    LICHENHUSK_STEP_KIND = 53,
     /* Of a tree: a string, short or long, that is not UTF-8. */
     LICHENHUSK_VALUE_NOT_UTF8 = 54,
 
-    /* Of a tree: a list ends before its count, its offsets or its elements do. */
+    /* Of a tree or a path: a list ends before its count, its offsets or its
+     * elements do. */
     LICHENHUSK_LIST_SHORT = 60,
-    /* Of a tree: a list's count or last offset asks for a place above
+    /* Of a tree or a path: a list's count or last offset asks for a place above
      * 4,294,967,295. */
     LICHENHUSK_LIST_OVERFLOW = 61,
-    /* Of a tree: an element's offset is above the next one, or above the length
-     * of the elements' bytes. The place: the element. Those of all elements are
-     * looked at before the first element is. */
-    LICHENHUSK_LIST_OFFSET = 62
+    /* Of a tree or a path: an element's offset is above the next one, or above the
+     * length of the elements' bytes. The place: the element. Those of all elements
+     * are looked at before the first element is. */
+    LICHENHUSK_LIST_OFFSET = 62,
+
+    /* The path is not UTF-8. Of 70 to 76 nothing is written to names and words. */
+    LICHENHUSK_PATH_NOT_UTF8 = 70,
+    /* The path begins with a dot. */
+    LICHENHUSK_PATH_LEADING_DOT = 71,
+    /* The path ends with a dot. */
+    LICHENHUSK_PATH_TRAILING_DOT = 72,
+    /* In the path, a dot or a bracket follows a dot, or a bracket closes that was
+     * not opened. */
+    LICHENHUSK_PATH_UNEXPECTED = 73,
+    /* In the path, a bracket is not closed. */
+    LICHENHUSK_PATH_UNCLOSED = 74,
+    /* In the path, what is in brackets is neither quoted nor a number below 2 to
+     * the 64th. */
+    LICHENHUSK_PATH_BRACKET = 75,
+    /* Fewer than three words of room for each step of the path, or fewer bytes than
+     * its names have, or more than 4,294,967,295 of these. */
+    LICHENHUSK_PATH_NO_ROOM = 76
 };
 
 /*
@@ -475,6 +503,75 @@ uint32_t lichenhusk_value(const uint8_t *value, size_t value_len,
 uint32_t lichenhusk_tree(const uint8_t *dict, size_t dict_len,
                          const uint8_t *value, size_t value_len,
                          uint8_t *marks, size_t marks_len,
+                         uint8_t *strip, size_t strip_len);
+
+/*
+ * Reads a path, checks the dictionary, and follows the path into the value, layer
+ * by layer.
+ *
+ * THE PATH is UTF-8, and its steps are names and indices: site.meter[2] is the
+ * name site, the name meter and the index 2. A name by itself is all bytes up to
+ * the next dot or bracket; after a dot one must follow. In brackets stands a name
+ * in quotes, ' or ", or a number, below 2 to the 64th, before which a plus may
+ * stand. A backslash there takes the byte after it as it is, a closing bracket
+ * too: ['a.b'] is the name a.b, and ['a\]b'] is a]b. Backslashes are taken off
+ * before quotes are looked for, so that ['a\'] is the name a. Outside of brackets
+ * a backslash is a byte like others. The empty path has no steps.
+ *
+ * names and words are for the steps: the bytes of all names go to the first bytes
+ * of names, in order without gaps, and three words for each step to the first of
+ * words: 0, and where the name starts and ends in names; or 1, and the low and the
+ * high half of the index. What comes after them stays as it is. path_len bytes of
+ * names and 3 * path_len words always do. words_len counts words. The steps are
+ * there whatever the answer is, but for 40 and for 70 to 76, which write to neither.
+ *
+ * A STEP that is a name is answered as by lichenhusk_lookup, and an index by the
+ * list's checks, those of all elements, and then the element of that number. The
+ * next step goes into what was found: an object's child up to the object's trimmed
+ * end, a list's element up to the next offset. What else is in the value is not
+ * looked at.
+ *
+ * 0: start and end are where what was found stands in the value, counted from its
+ *    first byte. number is the last step's field, and id its entry in the
+ *    dictionary; of an index, the index and 0. The empty path finds the whole value
+ *    whatever it is, from 0 to its length (of more than 4,294,967,295 bytes, that
+ *    number's low 32 bits), with 0 and 0. An element may have no bytes: start is
+ *    end.
+ * 1: an object on the way has no field of the name, or a list no such element.
+ * Otherwise a refusal, whose place is one in its own layer; which layer it is, is
+ * not told, and start is 0. In this order: 70; the first met of 71 to 75; 76; 10 to
+ * 19 of the dictionary; then of each step
+ *      20 and 21, the value that it goes into is over the limit or has no bytes
+ *      53, it is of another kind
+ *      23 to 28 of an object, or 60 to 62 of a list
+ * or 40, with which nothing is written.
+ *
+ * The time grows with the bytes of the path, of the dictionary and of the layers on
+ * the way; each of these is checked once.
+ *
+ * With the example's dictionary, this prints "-5":
+ *
+ *   const uint8_t value[] = {0x02, 1, 0, 0, 8, 0x03, 2, 0, 2, 3, 0x0C, 0xFB, 0x04};
+ *   const uint8_t path[] = "flow[0]";
+ *   uint8_t names[sizeof path];
+ *   uint32_t words[LICHENHUSK_WORDS_PER_STEP * sizeof path];
+ *
+ *   if (lichenhusk_path(dict, sizeof dict, value, sizeof value,
+ *                       path, sizeof path - 1, names, sizeof names,
+ *                       words, sizeof words / sizeof words[0],
+ *                       strip, sizeof strip) == LICHENHUSK_OK) {
+ *       uint32_t start = lichenhusk_word(strip, LICHENHUSK_START);
+ *       uint32_t end = lichenhusk_word(strip, LICHENHUSK_END);
+ *       if (lichenhusk_value(value + start, end - start,
+ *                            strip, sizeof strip) == LICHENHUSK_OK)
+ *           printf("%d\n", (int) lichenhusk_integer(strip));
+ *   }
+ */
+uint32_t lichenhusk_path(const uint8_t *dict, size_t dict_len,
+                         const uint8_t *value, size_t value_len,
+                         const uint8_t *path, size_t path_len,
+                         uint8_t *names, size_t names_len,
+                         uint32_t *words, size_t words_len,
                          uint8_t *strip, size_t strip_len);
 
 /*

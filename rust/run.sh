@@ -7,6 +7,7 @@
 #   run.sh short      the comparison's own tests, and a comparison that takes less than a minute
 #   run.sh long       millions of inputs
 #   run.sh trees      the trees of these alone
+#   run.sh paths      the paths of these alone
 #   run.sh replay N   answers of the Rust's, N lines at most, on standard output
 #   run.sh bench      the clock: all tables, or the one of a word
 #
@@ -93,10 +94,10 @@ case $task in
     has_source
     compare long "$@"
     ;;
-  trees)
+  trees | paths)
     has_cargo
     has_source
-    compare trees "$@"
+    compare "$task" "$@"
     ;;
   replay)
     has_cargo
@@ -110,7 +111,7 @@ case $task in
     target/measured/bench "$@"
     ;;
   *)
-    sed -n '2,14p' run.sh | cut -c3- >&2
+    sed -n '2,15p' run.sh | cut -c3- >&2
     exit 2
     ;;
 esac

@@ -1,5 +1,5 @@
 //! The clock: check and lookup together, the found field's id, its value, UTF-8 alone, many names of
-//! one message, all of its fields, whole trees, and larger messages, ours and the Rust's, in one
+//! one message, all of its fields, whole trees, paths, and larger messages, ours and the Rust's, in one
 //! process; and, where it is asked for, trees that are made to take long, ours alone.
 //!
 //! `cargo run --profile measured -p bench`; with `-- large`, or another word of `TABLES`, that
@@ -11,6 +11,7 @@ mod ids;
 mod large;
 mod listing;
 mod many;
+mod paths;
 mod rows;
 mod sides;
 mod texts;
@@ -24,7 +25,7 @@ use std::process::{Command, exit};
 use std::{env, fs};
 
 /// The tables, in their order, and the word for each.
-const TABLES: [(&str, fn()); 9] = [
+const TABLES: [(&str, fn()); 10] = [
     ("lookup", lookups),
     ("ids", ids_too),
     ("values", values_read),
@@ -33,6 +34,7 @@ const TABLES: [(&str, fn()); 9] = [
     ("listing", || listings(&listing::SMALLER)),
     ("listing-large", || listings(&listing::LARGEST)),
     ("trees", whole_trees),
+    ("paths", followed_paths),
     ("large", large_messages),
 ];
 
@@ -98,6 +100,16 @@ A value with all that is below it.
             bytes it allocates the marks
   Rust      Variant::try_new, which validates both in full
   /value    nanoseconds for each value in the tree";
+
+/// The same for the table of paths.
+const PATHS_LEGEND: &str = "\
+What stands at a path: the path read, and followed into a value.
+  ours      lichenhusk::path: path, dictionary and the layers on the way, in one call
+  Rust      VariantPath::try_from, Variant::try_new, which validates the whole tree, and get_path
+  shallow   VariantPath::try_from, VariantMetadata::try_new, Variant::new_with_metadata and get_path: no
+            check of ids, of the order of names, of offsets or of children, all but the last of which
+            ours does for each layer on the way
+The ratios are ours to the column before them. Each turn asks for another path, out of 256.";
 
 /// The same for the table of trees that are made to take long.
 const ADVERSARIAL_LEGEND: &str = "\
@@ -174,6 +186,26 @@ fn whole_trees() {
             ours / theirs,
             a_value(ours),
             a_value(theirs),
+        );
+    }
+}
+
+/// The table of paths.
+fn followed_paths() {
+    println!("{PATHS_LEGEND}\n");
+    println!(
+        "{:<46}{:>7}{:>9}{:>11}{:>14}{:>7}{:>11}{:>7}",
+        "row", "dict", "bytes", "ours", "Rust", "ratio", "shallow", "ratio"
+    );
+    for row in paths::rows() {
+        let [ours, whole, shallow] = paths::measured(&row);
+        println!(
+            "{:<46}{:>7}{:>9}{ours:>11.1}{whole:>14.1}{:>7.2}{shallow:>11.1}{:>7.2}",
+            row.label,
+            row.dict.len(),
+            row.value.len(),
+            ours / whole,
+            ours / shallow,
         );
     }
 }

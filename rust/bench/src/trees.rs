@@ -77,7 +77,7 @@ fn long(number: i64) -> Vec<u8> {
 
 /// A site with nine values of its own and ten meters, each with three and a list of fourteen
 /// readings: 200 values.
-fn message(label: &'static str, sorted: bool) -> Row {
+pub fn message(label: &'static str, sorted: bool) -> Row {
     let mut names = NAMES;
     if !sorted {
         names.rotate_left(NAMES.len() / 2);
@@ -124,7 +124,7 @@ fn message(label: &'static str, sorted: bool) -> Row {
 }
 
 /// An integer of 32 bits.
-fn integer(number: usize) -> Vec<u8> {
+pub fn integer(number: usize) -> Vec<u8> {
     let number = 0x0123_4567_u32.wrapping_mul(number as u32);
     [&[5 << 2][..], &number.to_le_bytes()].concat()
 }
@@ -145,7 +145,7 @@ fn mixed(number: usize) -> Vec<u8> {
 }
 
 /// A time and a flow, by the first two names.
-fn reading(number: usize) -> Vec<u8> {
+pub fn reading(number: usize) -> Vec<u8> {
     plain_object(
         &[0, 1],
         &[long(1_780_000_000 + number as i64), double(number as f64)],
@@ -153,7 +153,7 @@ fn reading(number: usize) -> Vec<u8> {
 }
 
 /// A list of elements, each of which is so many values.
-fn list_of(
+pub fn list_of(
     label: &'static str,
     count: usize,
     of_each: usize,

@@ -20,7 +20,7 @@
 //! listing says. The listing has the same ids and starts, and each child's own length as the Rust
 //! tells it, or is refused with 43 for a child that the Rust refuses: [`listing`](crate::listing) has
 //! that. Each child is read as a value, and [`values`](crate::values) has what must agree of that. Of
-//! a value as a whole tree, [`tree`](crate::tree) has it.
+//! a value as a whole tree, [`tree`](crate::tree) has it, and [`path`](crate::path) of a path into one.
 //!
 //! Of our own answers besides: each function gives the same refusal; an accepted layer's numbers
 //! are those of its header; a lookup's id is that of its field; words after a listing, and all words
@@ -37,10 +37,12 @@ use crate::original::{
     traced_start, utf8_error, words,
 };
 use crate::ours::{Reader, absent, accepted, found, refused};
+use crate::path::Followed;
 use crate::reading::{DictionaryParts, ObjectParts};
 use crate::tally::Tally;
 use crate::tree::Whole;
 use crate::values::Readings;
+use crate::walk::Walk;
 use crate::{Input, LARGE, shown};
 use lichenhusk::{LIMIT, OK, Strip};
 use parquet_variant::{Variant, VariantMetadata, VariantObject};
@@ -133,8 +135,13 @@ pub struct Known<'d> {
 /// Compares all that can be asked of an input.
 pub fn input(reader: &impl Reader, input: &Input, tally: &mut Tally) -> Compared {
     let known = dictionary(reader, &input.dict, tally)?;
-    if let Some(value) = &input.tree {
-        tree(reader, &known, value, tally)?;
+    match (&input.tree, &input.path) {
+        (value, Some(text)) => {
+            let value = value.as_deref().unwrap_or_default();
+            path(reader, &known, value, text, tally)?;
+        }
+        (Some(value), None) => tree(reader, &known, value, tally)?,
+        (None, None) => {}
     }
     match &input.object {
         Some(bytes) => object(reader, &known, bytes, input.query.as_deref(), tally),
@@ -151,6 +158,29 @@ pub fn tree(reader: &impl Reader, known: &Known, value: &[u8], tally: &mut Tally
         metadata: known.theirs.as_ref(),
     };
     whole.of(value, tally)
+}
+
+/// Compares what can be asked of a path into a value over a dictionary.
+pub fn path(
+    reader: &impl Reader,
+    known: &Known,
+    value: &[u8],
+    text: &[u8],
+    tally: &mut Tally,
+) -> Compared {
+    let walk = Walk {
+        dict: known.dict,
+        dictionary: known.ours,
+        value,
+        path: text,
+        fault: None,
+    };
+    let followed = Followed {
+        reader,
+        walk,
+        metadata: known.theirs.as_ref(),
+    };
+    followed.compare(tally)
 }
 
 /// Compares what can be asked of a dictionary.

@@ -6,6 +6,7 @@ use crate::many::bad_ends;
 use crate::ours::{Reader, absent, accepted, found, refused, refused_at};
 use crate::reading::{BINARY, ObjectParts, PAYLOADS, STRING, own_length};
 use crate::reference::{Tree, Twist};
+use crate::walk::Walk;
 use lichenhusk::{ABSENT, LEVELS, LIMIT, OK, OWN_MARKS, Strip, WORDS_PER_FIELD, WORDS_PER_NAME};
 
 /// What a wrong reader does wrong.
@@ -251,10 +252,138 @@ pub enum Fault {
     KeepsMarksRefused,
     /// Takes a value whose start is marked before the check for good.
     TrustsMarks,
+    /// Leaves the backslashes in what is in brackets.
+    KeepsBackslashes,
+    /// Closes a bracket at one that has a backslash before it.
+    EscapedCloses,
+    /// Looks for quotes before it takes the backslashes off.
+    QuotesBeforeEscapes,
+    /// Takes a closing bracket between quotes for a part of the name.
+    QuotesHoldBrackets,
+    /// Takes a name between quotes of two kinds.
+    MixedQuotes,
+    /// Takes one quote alone for a name of no bytes.
+    OneQuote,
+    /// Refuses a name of no bytes.
+    NoEmptyQuotes,
+    /// Does not know the double quote.
+    SingleQuotesOnly,
+    /// Takes what is in brackets without quotes for a name, as the Rust's documentation says.
+    BareNames,
+    /// Refuses an index with a plus before it.
+    NoPlus,
+    /// Takes many pluses.
+    ManyPluses,
+    /// Takes a minus.
+    TakesMinus,
+    /// Takes an index with spaces about it.
+    TrimsNumbers,
+    /// Takes no digits for 0.
+    NoDigitsIsZero,
+    /// Refuses an index that begins with a 0 and goes on.
+    NoLeadingZeros,
+    /// Takes the low 64 bits of an index.
+    WrapsIndices,
+    /// Refuses an index of more than 32 bits.
+    IndicesOfFourBytes,
+    /// Takes a closing bracket for a part of a name.
+    ClosingInNames,
+    /// Takes backslashes off outside of brackets.
+    EscapesOutside,
+    /// Says 73 of a name that follows a bracket without a dot.
+    WantsDots,
+    /// Takes a dot at the end.
+    TakesTrailingDots,
+    /// Says 73 of a dot at the end.
+    TrailingIsUnexpected,
+    /// Says 72 of a dot at the end before what is wrong earlier.
+    TrailingDotFirst,
+    /// Says 72 of a dot alone.
+    LoneDotTrails,
+    /// Says 75 before 74 of a bracket that is not closed.
+    UnclosedLast,
+    /// Takes a path that is not UTF-8.
+    TakesAnyText,
+    /// Says 70 after 71 to 75.
+    TextLast,
+    /// Says 76 before what is wrong with the path.
+    RoomBeforePath,
+    /// Says 76 after what is refused of the dictionary.
+    RoomAfterDictionary,
+    /// Says 76 where there are just as many words as are needed.
+    WantsMoreWords,
+    /// Says 76 where there are fewer bytes than the path has.
+    WantsPathsBytes,
+    /// Writes as much as there is room for, and goes on.
+    WritesWhatFits,
+    /// Writes under 76.
+    WritesWithoutRoom,
+    /// Writes under 70 to 75.
+    WritesRefusedPaths,
+    /// Writes no steps where the dictionary is refused.
+    LeavesUnderDictionary,
+    /// Writes none where a step is.
+    LeavesUnderSteps,
+    /// Clears what comes after the steps.
+    ClearsTheRest,
+    /// Leaves a byte after each name.
+    GapsBetweenNames,
+    /// Gives the length of a name for its end.
+    LengthForEnd,
+    /// Gives the halves of an index in each other's word.
+    SwapsIndexWords,
+    /// Says 1 of a name and 0 of an index.
+    SwapsStepKinds,
+    /// Says 21 before what is refused of the dictionary.
+    ValueBeforeDictionary,
+    /// Does not look at the dictionary where the path is empty.
+    EmptyPathUnchecked,
+    /// Says 21 of no bytes where the path is empty.
+    EmptyPathReads,
+    /// Stops at the first step.
+    FirstStepOnly,
+    /// Says absent of all that is there.
+    NothingIsThere,
+    /// Gives the first step's field.
+    FieldOfFirstStep,
+    /// Gives the id of the step before for an index.
+    IdOfName,
+    /// Counts starts from the layer.
+    StartInLayer,
+    /// Hands a child the bytes after its object's end.
+    UntrimmedSteps,
+    /// Hands an element the bytes up to the end of its list.
+    ElementGoesOn,
+    /// Takes an index into an object for its field.
+    IndexesFields,
+    /// Says absent of a step into a value of another kind, as the Rust does.
+    OtherKindIsAbsent,
+    /// Says 22 of it.
+    OtherKindIsNoObject,
+    /// Counts steps from 1.
+    StepsFromOne,
+    /// Says 53 without the step.
+    NoStepNumber,
+    /// Says 50 of a step into no bytes.
+    EmptyIsShort,
+    /// Goes into a value over the limit.
+    NoStepLimit,
+    /// Says what is refused of a layer without its place.
+    NoPlaceInLayer,
+    /// Gives the start of the layer that is refused.
+    StartOfLayer,
+    /// Says absent before what is refused of the layer.
+    AbsentBeforeChecks,
+    /// Looks at the offsets up to its element's alone.
+    ChecksToElement,
+    /// Takes the low 32 bits of an index for the element.
+    LowWordOnly,
+    /// Finds a field whose name begins with the one that is looked for.
+    FindsBeginnings,
 }
 
 /// Every fault.
-pub const ALL: [Fault; 120] = [
+pub const ALL: [Fault; 184] = [
     Fault::AlwaysShort,
     Fault::AbsentIsFound,
     Fault::AlwaysAbsent,
@@ -375,6 +504,70 @@ pub const ALL: [Fault; 120] = [
     Fault::KeepsMarks,
     Fault::KeepsMarksRefused,
     Fault::TrustsMarks,
+    Fault::KeepsBackslashes,
+    Fault::EscapedCloses,
+    Fault::QuotesBeforeEscapes,
+    Fault::QuotesHoldBrackets,
+    Fault::MixedQuotes,
+    Fault::OneQuote,
+    Fault::NoEmptyQuotes,
+    Fault::SingleQuotesOnly,
+    Fault::BareNames,
+    Fault::NoPlus,
+    Fault::ManyPluses,
+    Fault::TakesMinus,
+    Fault::TrimsNumbers,
+    Fault::NoDigitsIsZero,
+    Fault::NoLeadingZeros,
+    Fault::WrapsIndices,
+    Fault::IndicesOfFourBytes,
+    Fault::ClosingInNames,
+    Fault::EscapesOutside,
+    Fault::WantsDots,
+    Fault::TakesTrailingDots,
+    Fault::TrailingIsUnexpected,
+    Fault::TrailingDotFirst,
+    Fault::LoneDotTrails,
+    Fault::UnclosedLast,
+    Fault::TakesAnyText,
+    Fault::TextLast,
+    Fault::RoomBeforePath,
+    Fault::RoomAfterDictionary,
+    Fault::WantsMoreWords,
+    Fault::WantsPathsBytes,
+    Fault::WritesWhatFits,
+    Fault::WritesWithoutRoom,
+    Fault::WritesRefusedPaths,
+    Fault::LeavesUnderDictionary,
+    Fault::LeavesUnderSteps,
+    Fault::ClearsTheRest,
+    Fault::GapsBetweenNames,
+    Fault::LengthForEnd,
+    Fault::SwapsIndexWords,
+    Fault::SwapsStepKinds,
+    Fault::ValueBeforeDictionary,
+    Fault::EmptyPathUnchecked,
+    Fault::EmptyPathReads,
+    Fault::FirstStepOnly,
+    Fault::NothingIsThere,
+    Fault::FieldOfFirstStep,
+    Fault::IdOfName,
+    Fault::StartInLayer,
+    Fault::UntrimmedSteps,
+    Fault::ElementGoesOn,
+    Fault::IndexesFields,
+    Fault::OtherKindIsAbsent,
+    Fault::OtherKindIsNoObject,
+    Fault::StepsFromOne,
+    Fault::NoStepNumber,
+    Fault::EmptyIsShort,
+    Fault::NoStepLimit,
+    Fault::NoPlaceInLayer,
+    Fault::StartOfLayer,
+    Fault::AbsentBeforeChecks,
+    Fault::ChecksToElement,
+    Fault::LowWordOnly,
+    Fault::FindsBeginnings,
 ];
 
 impl Fault {
@@ -401,6 +594,11 @@ impl Fault {
             Fault::EmptyChildrenAsValues => Twist::EmptyChildren,
             _ => return None,
         })
+    }
+
+    /// Whether it is one of paths, which [`spelling`](crate::spelling) and [`walk`](crate::walk) have.
+    pub fn is_of_paths(self) -> bool {
+        self as usize >= Fault::KeepsBackslashes as usize
     }
 
     /// How many levels it lets a tree have.
@@ -936,5 +1134,26 @@ impl<R: Reader> Reader for Faulty<R> {
             }
             _ => self.wrong_tree(dict, value, strip),
         }
+    }
+
+    fn path(
+        &self,
+        dict: &[u8],
+        value: &[u8],
+        path: &[u8],
+        names: &mut [u8],
+        words: &mut [u32],
+    ) -> Strip {
+        if !self.fault.is_of_paths() {
+            return self.reader.path(dict, value, path, names, words);
+        }
+        let walk = Walk {
+            dict,
+            dictionary: self.reader.dictionary(dict),
+            value,
+            path,
+            fault: Some(self.fault),
+        };
+        walk.answer(names, words)
     }
 }

@@ -2,10 +2,11 @@
 //!
 //! [`compare`] says what must agree, [`listing`] of a listing, [`many`] of many names at once and
 //! [`values`] of a value that is read; [`tree`] has what must agree of a whole tree, by a [`reference`]
-//! and by the Rust but for what is [`otherwise`] there. [`ours`] and [`original`] are the two sides,
+//! and by the Rust but for what is [`otherwise`] there; [`path`] of a path into a value, by a
+//! [`spelling`] of its text and a [`walk`], and by the Rust. [`ours`] and [`original`] are the two sides,
 //! and [`lengths`] has what the Rust tells of children's lengths; [`fixed`], [`exhaustive`],
-//! [`children`], [`extremes`], [`long_names`], [`generate`], [`large`], [`trees`] and [`damage`] make
-//! the inputs; [`run`] goes through them, counting in a [`tally`], and has [`shrink`] make an input
+//! [`children`], [`extremes`], [`long_names`], [`generate`], [`large`], [`trees`], [`paths`] and
+//! [`damage`] make the inputs; [`run`] goes through them, counting in a [`tally`], and has [`shrink`] make an input
 //! that disagrees as small as it can.
 //! [`replay`] writes answers of the Rust's down, to be asked again where it is not at hand.
 
@@ -26,16 +27,20 @@ pub mod many;
 pub mod original;
 pub mod otherwise;
 pub mod ours;
+pub mod path;
+pub mod paths;
 pub mod random;
 pub mod reading;
 pub mod reference;
 pub mod replay;
 pub mod run;
 pub mod shrink;
+pub mod spelling;
 pub mod tally;
 pub mod tree;
 pub mod trees;
 pub mod values;
+pub mod walk;
 
 /// A dictionary or an object of more bytes is a large one: its places take more than two bytes.
 pub const LARGE: usize = 65_536;
@@ -47,8 +52,10 @@ pub struct Input {
     pub dict: Vec<u8>,
     /// The object's bytes.
     pub object: Option<Vec<u8>>,
-    /// A value of which the whole tree is checked.
+    /// A value of which the whole tree is checked or, where there is a path, into which it is followed.
     pub tree: Option<Vec<u8>>,
+    /// That path.
+    pub path: Option<Vec<u8>>,
     /// A name to look for beside those that the two suggest.
     pub query: Option<Vec<u8>>,
 }
@@ -80,10 +87,18 @@ impl Input {
         }
     }
 
+    /// A dictionary, a value over it and a path into it.
+    pub fn path(dict: Vec<u8>, value: Vec<u8>, path: Vec<u8>) -> Input {
+        Input {
+            path: Some(path),
+            ..Input::tree(dict, value)
+        }
+    }
+
     /// How many bytes there are in all.
     pub fn size(&self) -> usize {
         let length = |bytes: &Option<Vec<u8>>| bytes.as_ref().map_or(0, Vec::len);
-        let parts = [&self.object, &self.tree, &self.query].map(length);
+        let parts = [&self.object, &self.tree, &self.path, &self.query].map(length);
         self.dict.len() + parts.iter().sum::<usize>()
     }
 }

@@ -1,10 +1,10 @@
-//! The command: `differential short`, `differential long`, `differential trees` or `differential replay
-//! LINES`.
+//! The command: `differential short`, `differential long`, `differential trees`, `differential paths` or
+//! `differential replay LINES`.
 
 use differential::faults::{ALL, Fault, Faulty};
 use differential::ours::Archive;
 use differential::replay;
-use differential::run::{Outcome, Settings, run};
+use differential::run::{Outcome, Part, Settings, run};
 use std::env::args;
 use std::process::ExitCode;
 use std::time::Duration;
@@ -13,6 +13,7 @@ const USAGE: &str = "\
 usage: differential short [--seed N]
        differential long [--seed N] [--inputs N] [--minutes N]
        differential trees [--seed N] [--inputs N] [--minutes N]
+       differential paths [--seed N] [--inputs N] [--minutes N]
        differential replay LINES [--seed N]";
 
 /// How long an input that disagrees is made smaller.
@@ -32,6 +33,9 @@ fn main() -> ExitCode {
         }
         ["trees", ref options @ ..] => {
             read(options).map(|options| long_run(trees(&options), &options))
+        }
+        ["paths", ref options @ ..] => {
+            read(options).map(|options| long_run(paths(&options), &options))
         }
         ["replay", lines, ref options @ ..] => emit(lines, options),
         _ => None,
@@ -82,10 +86,11 @@ fn short(options: &Options) -> Settings {
         generated: 300_000,
         large: 60,
         trees: 20_000,
-        trees_alone: false,
+        paths: 40_000,
+        part: Part::All,
         every: 3,
         telling: 7,
-        limit: Duration::from_secs(50),
+        limit: Duration::from_secs(58),
         patience: PATIENCE,
     }
 }
@@ -96,7 +101,8 @@ fn long(options: &Options) -> Settings {
         generated: options.inputs,
         large: 6_000,
         trees: 1_000_000,
-        trees_alone: false,
+        paths: 1_000_000,
+        part: Part::All,
         every: 3,
         telling: 8,
         limit: Duration::from_secs(60 * options.minutes),
@@ -108,7 +114,16 @@ fn long(options: &Options) -> Settings {
 fn trees(options: &Options) -> Settings {
     Settings {
         trees: options.inputs,
-        trees_alone: true,
+        part: Part::Trees,
+        ..long(options)
+    }
+}
+
+/// Paths alone, of each kind as many as there would be inputs.
+fn paths(options: &Options) -> Settings {
+    Settings {
+        paths: options.inputs,
+        part: Part::Paths,
         ..long(options)
     }
 }

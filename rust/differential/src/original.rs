@@ -32,7 +32,7 @@ pub fn same_value(a: &Variant, b: &Variant) -> bool {
 }
 
 /// What stands for a child in [`traced`]: a short string of no bytes.
-const EMPTY_SHORT_STRING: u8 = 0x01;
+pub const EMPTY_SHORT_STRING: u8 = 0x01;
 
 /// A copy of an object in which every child is an empty short string; nothing for bytes that
 /// have not all their parts.
@@ -88,6 +88,23 @@ const DICTIONARY_REASONS: &Reasons = &[
     ("overflow", 14),
     ("empty", 11),
 ];
+
+/// How the Rust's words for a refused path begin. What comes after may be the path's own.
+const PATH_REASONS: &Reasons = &[
+    ("Unexpected leading", 71),
+    ("Unexpected trailing", 72),
+    ("Unexpected '", 73),
+    ("Unclosed", 74),
+    ("Invalid token", 75),
+];
+
+/// Our number for a path that the Rust refuses.
+pub fn path_number(error: &ArrowError) -> Option<u32> {
+    let words = words(error);
+    let mut reasons = PATH_REASONS.iter();
+    let reason = reasons.find(|(telling, _)| words.starts_with(telling));
+    reason.map(|&(_, number)| number)
+}
 
 /// The library's error, where a dictionary's names are not UTF-8.
 pub fn utf8_error(dict: &[u8]) -> Option<Utf8Error> {

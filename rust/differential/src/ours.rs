@@ -28,6 +28,16 @@ pub trait Reader {
     fn value(&self, value: &[u8]) -> Strip;
     /// The own length as end; refused, the start of the value that is. The marks are lent.
     fn tree(&self, dict: &[u8], value: &[u8], marks: &mut [u8]) -> Strip;
+    /// Field, id, start, end of what stands at a path; its steps go to the names and words that are
+    /// lent.
+    fn path(
+        &self,
+        dict: &[u8],
+        value: &[u8],
+        path: &[u8],
+        names: &mut [u8],
+        words: &mut [u32],
+    ) -> Strip;
 }
 
 /// The archive itself.
@@ -72,6 +82,17 @@ impl Reader for Archive {
 
     fn tree(&self, dict: &[u8], value: &[u8], marks: &mut [u8]) -> Strip {
         filled(|strip| raw::tree(dict, value, marks, strip))
+    }
+
+    fn path(
+        &self,
+        dict: &[u8],
+        value: &[u8],
+        path: &[u8],
+        names: &mut [u8],
+        words: &mut [u32],
+    ) -> Strip {
+        filled(|strip| raw::path(dict, value, path, names, words, strip))
     }
 }
 

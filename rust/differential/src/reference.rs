@@ -139,6 +139,11 @@ impl<'t> Tree<'t> {
         }
     }
 
+    /// The name of an entry.
+    pub(crate) fn name(&self, id: usize) -> Option<&'t [u8]> {
+        self.names.get(id).copied()
+    }
+
     fn is(&self, twist: Twist) -> bool {
         self.twist == Some(twist)
     }
@@ -246,7 +251,11 @@ impl<'t> Tree<'t> {
     }
 
     /// An object's own checks, by document 01; where its children are, each up to the trimmed end.
-    fn object(&self, bytes: &[u8], outermost: bool) -> Result<Vec<Range<usize>>, (u32, usize)> {
+    pub(crate) fn object(
+        &self,
+        bytes: &[u8],
+        outermost: bool,
+    ) -> Result<Vec<Range<usize>>, (u32, usize)> {
         let parts = ObjectParts::of(bytes);
         let offsets = parts.map(|parts| parts.offsets);
         let length = region(bytes, offsets, [23, 24])?;
@@ -281,7 +290,7 @@ impl<'t> Tree<'t> {
     }
 
     /// A list's own checks; where its elements are, each up to the next offset.
-    fn list(&self, bytes: &[u8]) -> Result<Vec<Range<usize>>, (u32, usize)> {
+    pub(crate) fn list(&self, bytes: &[u8]) -> Result<Vec<Range<usize>>, (u32, usize)> {
         let offsets = list_offsets(bytes);
         let length = region(bytes, offsets, [60, 61])?;
         let offsets = offsets.ok_or((60, 0))?;

@@ -4,7 +4,9 @@
 //! in rust/README.md. Nothing of our side goes into a line.
 //!
 //! Of a whole tree the Rust says that it is accepted, and how long it is, or that it is refused; for
-//! what, and of the value at which start, the [`reference`](crate::reference) says.
+//! what, and of the value at which start, the [`reference`](crate::reference) says. Of a path it says for
+//! what it refuses it or, into a tree that it accepts, which value it finds, or none; where that stands,
+//! and why there is none, the [`walk`](crate::walk) says.
 
 use crate::damage::damaged;
 use crate::extremes;
@@ -12,7 +14,8 @@ use crate::fixed;
 use crate::generate::good;
 use crate::lengths::{FEW, Values};
 use crate::original::{
-    Reasons, dictionary_number, layer_number, place_in, told, traced, traced_start,
+    Reasons, dictionary_number, layer_number, path_number, place_in, same_value, told, traced,
+    traced_start,
 };
 use crate::ours::{accepted, refused_at};
 use crate::random::Random;
@@ -20,9 +23,10 @@ use crate::reading::ObjectParts;
 use crate::reference::Tree;
 use crate::tree::visits;
 use crate::values::said_by;
-use crate::{Input, hex, trees};
-use lichenhusk::{LIMIT, OK, Strip, WORDS_PER_NAME, run_of};
-use parquet_variant::{Variant, VariantMetadata, VariantObject};
+use crate::walk::Walk;
+use crate::{Input, hex, paths, trees};
+use lichenhusk::{ABSENT, LIMIT, OK, Strip, WORDS_PER_NAME, WORDS_PER_STEP, run_of};
+use parquet_variant::{Variant, VariantMetadata, VariantObject, VariantPath};
 use std::collections::{BTreeMap, BTreeSet};
 use std::fmt;
 
@@ -30,16 +34,16 @@ use std::fmt;
 pub const SEED: u64 = 60;
 
 /// How many lines the repository keeps.
-pub const KEPT: usize = 3_300;
+pub const KEPT: usize = 3_600;
 
-/// One line in so many is a tree's.
-const TREES: usize = 11;
+/// One line in so many is a tree's, and one a path's.
+const SHARE: usize = 12;
 
 /// The longest line that is taken.
 const LONGEST: usize = 130;
 
-/// The most bytes in all: the program that replays the lines has room for 262,144.
-pub const MOST_BYTES: usize = 260_000;
+/// The most bytes in all: the program that replays the lines has room for 327,680.
+pub const MOST_BYTES: usize = 320_000;
 
 /// The most names at once: a reader of the lines has room for their rows.
 const MOST_NAMES: usize = 3;
@@ -47,15 +51,20 @@ const MOST_NAMES: usize = 3;
 /// Inputs that are drawn before each class may have one line more.
 const ROUND: usize = 3_000;
 
-/// Lines of each class out of the numbers at the ends of their ranges.
+/// Lines of each class out of the numbers at the ends of their ranges, and of the trees that are always
+/// the same.
 const AT_FIRST: usize = 2;
+
+/// What makes an input of a kind, and a damaged copy of it.
+type Good = fn(&mut Random) -> Input;
+type Damaged = fn(&mut Random, &Input) -> Input;
 
 /// Rounds before giving up.
 const ROUNDS: usize = 200;
 
 /// So many lines at most, chosen over all answers and shapes, in order.
 pub fn lines(seed: u64, most: usize) -> Vec<String> {
-    let mut chosen = Chosen::new(most - most / TREES);
+    let mut chosen = Chosen::new(most - 2 * (most / SHARE));
     for input in fixed::inputs() {
         chosen.take(&input, usize::MAX);
     }
@@ -72,8 +81,12 @@ pub fn lines(seed: u64, most: usize) -> Vec<String> {
         chosen.take(&damaged(&mut random, &whole), each);
         chosen.take(&whole, each);
     }
+    chosen.most += most / SHARE;
+    let trees = (trees::good as Good, trees::damaged as Damaged);
+    chosen.take_more(&mut random, trees::fixed(), AT_FIRST, trees);
     chosen.most = most;
-    chosen.take_trees(&mut random);
+    let paths = (paths::followed as Good, paths::damaged as Damaged);
+    chosen.take_more(&mut random, paths::fixed(), 1, paths);
     chosen.lines.into_iter().collect()
 }
 
@@ -99,18 +112,24 @@ impl Chosen {
         self.lines.len() < self.most && self.bytes + LONGEST < MOST_BYTES
     }
 
-    /// Takes trees, in rounds as the others.
-    fn take_trees(&mut self, random: &mut Random) {
-        for input in trees::fixed() {
-            self.take(&input, AT_FIRST);
+    /// Takes trees, or paths, in rounds as the others.
+    fn take_more(
+        &mut self,
+        random: &mut Random,
+        fixed: impl Iterator<Item = Input>,
+        at_first: usize,
+        (good, damaged): (Good, Damaged),
+    ) {
+        for input in fixed {
+            self.take(&input, at_first);
         }
         for draw in 0..ROUNDS * ROUND {
             if !self.has_room() {
                 break;
             }
-            let whole = trees::good(random);
-            let each = AT_FIRST + 1 + draw / ROUND;
-            self.take(&trees::damaged(random, &whole), each);
+            let whole = good(random);
+            let each = at_first + 1 + draw / ROUND;
+            self.take(&damaged(random, &whole), each);
             self.take(&whole, each);
         }
     }
@@ -160,6 +179,8 @@ enum Says {
     Value(u32, u32, u32),
     /// A tree: the strip that is due, of which the line has the end, or the number and the start.
     Tree(Strip),
+    /// A path: the strip that is due, and of its steps how many there are.
+    Path(Strip, usize),
     /// Refused, by our number.
     Refused(u32),
 }
@@ -181,6 +202,15 @@ impl fmt::Display for Says {
             Says::Value(kind, low, high) => write!(to, "reads {kind} {low} {high}"),
             Says::Tree(strip) if strip.code == OK => write!(to, "accepts 0 {}", strip.end),
             Says::Tree(strip) => write!(to, "refuses {} {}", strip.code, strip.start),
+            Says::Path(strip, _) => match strip.code {
+                OK => write!(
+                    to,
+                    "found {} {} {} {}",
+                    strip.number, strip.id, strip.start, strip.end
+                ),
+                ABSENT => write!(to, "absent"),
+                number => write!(to, "refuses {number}"),
+            },
             Says::Refused(number) => write!(to, "refuses {number}"),
         }
     }
@@ -217,6 +247,9 @@ impl Answer {
 
     /// What is asked, what is answered, and the shapes by the headers of what was read.
     fn class(&self, input: &Input) -> String {
+        if let Says::Path(strip, steps) = self.says {
+            return path_class(strip.code, steps, input);
+        }
         let (dict_bits, object_bits) = match (self.kind(), &self.says) {
             ("dictionary", _) => (WIDTH | SORTED, 0),
             ("value", _) => (0, 0),
@@ -257,12 +290,34 @@ impl Answer {
     }
 }
 
+/// The class of a path: by what is answered; of one that is read, by how many steps there are and by the
+/// value's kind; and by how it is spelled, where that is all that is refused, or nothing.
+fn path_class(code: u32, steps: usize, input: &Input) -> String {
+    let path = input.path.as_deref().unwrap_or_default();
+    let marks: Vec<u8> = PATH_MARKS
+        .into_iter()
+        .filter(|mark| path.contains(mark))
+        .collect();
+    let value = input.tree.as_deref().unwrap_or_default();
+    let kind = value.first().map(|header| header & BASIC_TYPE);
+    match code {
+        10..=19 => format!("path {code}"),
+        OK | ABSENT => format!("path {code} {} {kind:?} {marks:?}", steps.min(4)),
+        70.. => format!("path {code} {marks:?}"),
+        _ => format!("path {code} {} {kind:?}", steps.min(4)),
+    }
+}
+
 /// The width's bits of a dictionary's header.
 const WIDTH: u8 = 0xC0;
 /// The bit of a dictionary's header that says sorted.
 const SORTED: u8 = 0x10;
 /// The bits of a value's header for its basic type, and of an object or a list the offsets' width.
 const TREE_SHAPE: u8 = 0x0F;
+/// What tells one spelling of a path from another.
+const PATH_MARKS: [u8; 6] = *b".['\"\\+";
+/// The bits of a value's header for its basic type.
+const BASIC_TYPE: u8 = 0x03;
 /// The bits of an object's header for both widths and the long count.
 const OBJECT_SHAPE: u8 = 0x7C;
 
@@ -295,15 +350,79 @@ fn of_tree(dict: &[u8], value: &[u8]) -> Option<Answer> {
     })
 }
 
+/// What the Rust and the walk say to a path; nothing where they differ, or where the Rust cannot be
+/// asked.
+fn of_path(dict: &[u8], value: &[u8], path: &[u8]) -> Option<Answer> {
+    let (dictionary, metadata) = match VariantMetadata::try_new(dict) {
+        Ok(metadata) => (accepted(metadata.len(), 0, metadata.size()), Some(metadata)),
+        Err(error) => {
+            let code = dictionary_number(dict, &error)?;
+            // The place is not told, and no line has it.
+            (refused_at(code, 0, 0), None)
+        }
+    };
+    let walk = Walk {
+        dict,
+        dictionary,
+        value,
+        path,
+        fault: None,
+    };
+    let (mut names, mut words) = (vec![0; path.len()], vec![0; WORDS_PER_STEP * path.len()]);
+    let due = walk.answer(&mut names, &mut words);
+    let theirs = std::str::from_utf8(path).ok().map(VariantPath::try_from);
+    let is_same = match (theirs, metadata) {
+        (None, _) => due.code == 70,
+        (Some(Err(error)), _) => path_number(&error) == Some(due.code),
+        (Some(Ok(_)), None) => (10..20).contains(&due.code),
+        (Some(Ok(path)), Some(metadata)) => is_got(due, &metadata, value, &path)?,
+    };
+    is_same.then(|| Answer {
+        case: format!("path {} {} {}", hex(dict), hex(value), hex(path)),
+        says: Says::Path(due, walk.steps().map_or(0, |steps| steps.len())),
+    })
+}
+
+/// Whether `get_path` finds the value that stands where an answer says, or none where that is absent or
+/// 53; of a tree that the Rust refuses, whether the answer is a refusal too. Nothing where the Rust
+/// cannot be asked.
+fn is_got(
+    due: Strip,
+    metadata: &VariantMetadata,
+    value: &[u8],
+    path: &VariantPath,
+) -> Option<bool> {
+    if visits(value, MOST_VISITS) == MOST_VISITS {
+        return None;
+    }
+    let read = |bytes| Variant::try_new_with_metadata(metadata.clone(), bytes).ok();
+    let Some(whole) = read(value) else {
+        return Some(!matches!(due.code, OK | ABSENT | 53));
+    };
+    let found = whole.get_path(path);
+    Some(match (due.code, found) {
+        (OK, Some(found)) => {
+            let part = read(value.get(due.start as usize..due.end as usize)?);
+            part.is_some_and(|part| same_value(&part, &found))
+        }
+        (ABSENT | 53, None) => true,
+        _ => false,
+    })
+}
+
 /// The Rust is asked about trees in which fewer values are met.
 const MOST_VISITS: usize = 10_000;
 
 /// All that is asked of an input, as far as it is in the domain.
 fn answers(input: &Input) -> Vec<Answer> {
-    if let Some(value) = &input.tree {
-        return of_tree(&input.dict, value).into_iter().collect();
-    }
     let dict = &input.dict;
+    if let Some(value) = &input.tree {
+        let answer = match &input.path {
+            Some(path) => of_path(dict, value, path),
+            None => of_tree(dict, value),
+        };
+        return answer.into_iter().collect();
+    }
     let mut all = Vec::new();
     if dict.len() > LIMIT {
         return all;

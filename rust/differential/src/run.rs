@@ -12,7 +12,7 @@ use crate::ours::Reader;
 use crate::random::Random;
 use crate::shrink::smallest;
 use crate::tally::{Tally, grouped};
-use crate::{Input, children, extremes, large, shown, trees};
+use crate::{Input, children, extremes, large, paths, shown, trees};
 use std::fmt;
 use std::panic::{AssertUnwindSafe, catch_unwind};
 use std::time::{Duration, Instant};
@@ -28,8 +28,10 @@ pub struct Settings {
     pub large: u64,
     /// How many trees are generated, good ones and damaged ones together.
     pub trees: u64,
-    /// Whether trees are all that is gone through.
-    pub trees_alone: bool,
+    /// How many paths are generated, of each kind, good ones and damaged ones together.
+    pub paths: u64,
+    /// What is gone through.
+    pub part: Part,
     /// The length up to which every string of bytes is tried.
     pub every: usize,
     /// The length up to which every string of telling bytes is tried.
@@ -38,6 +40,17 @@ pub struct Settings {
     pub limit: Duration,
     /// How long an input that disagrees is made smaller.
     pub patience: Duration,
+}
+
+/// Which inputs a run goes through.
+#[derive(Clone, Copy, Debug, PartialEq, Eq)]
+pub enum Part {
+    /// All of them.
+    All,
+    /// Trees alone.
+    Trees,
+    /// Paths alone.
+    Paths,
 }
 
 /// Damaged copies of each good input.
@@ -127,15 +140,25 @@ fn caught<T>(comparison: impl FnOnce() -> Compared<T>) -> Compared<T> {
 
 impl<R: Reader> Run<'_, R> {
     fn all(&mut self) -> Going {
-        if self.settings.trees_alone {
-            self.small_trees()?;
-            return self.larger_trees();
+        match self.settings.part {
+            Part::All => {
+                self.few_bytes()?;
+                self.small_trees()?;
+                self.small_paths()?;
+                self.larger_messages()?;
+                self.larger_trees()?;
+                self.larger_paths()?;
+                self.names_and_generated()
+            }
+            Part::Trees => {
+                self.small_trees()?;
+                self.larger_trees()
+            }
+            Part::Paths => {
+                self.small_paths()?;
+                self.larger_paths()
+            }
         }
-        self.few_bytes()?;
-        self.small_trees()?;
-        self.larger_messages()?;
-        self.larger_trees()?;
-        self.names_and_generated()
     }
 
     fn few_bytes(&mut self) -> Going {
@@ -176,6 +199,28 @@ impl<R: Reader> Run<'_, R> {
         })?;
         self.kind("trees generated, and damaged copies", |run| {
             run.generated(run.settings.trees, trees::good, trees::damaged)
+        })
+    }
+
+    fn small_paths(&mut self) -> Going {
+        self.kind("paths: worked cases over good and bad layers", |run| {
+            paths::fixed().try_for_each(|input| run.input(&input))
+        })?;
+        self.kind("every path of telling bytes", Self::telling_paths)?;
+        self.kind("paths generated, and miswritten copies", |run| {
+            run.generated(run.settings.paths, paths::written, paths::miswritten)
+        })?;
+        self.kind("paths into trees, and damaged copies", |run| {
+            run.generated(run.settings.paths, paths::followed, paths::damaged)
+        })
+    }
+
+    fn larger_paths(&mut self) -> Going {
+        self.kind("paths into larger trees, and damaged copies", |run| {
+            run.generated(run.settings.large / 10, paths::larger, paths::damaged)
+        })?;
+        self.kind("paths about the limit of length", |run| {
+            paths::of_length().try_for_each(|input| run.input(&input))
         })
     }
 
@@ -331,6 +376,16 @@ impl<R: Reader> Run<'_, R> {
         Ok(())
     }
 
+    /// Every short path of telling bytes.
+    fn telling_paths(&mut self) -> Going {
+        let longest = self.settings.telling - 2;
+        (0..=longest).try_for_each(|length| {
+            each(length, &paths::TELLING, &paths::TELLING, |text| {
+                self.input(&paths::over_small(text))
+            })
+        })
+    }
+
     /// Every object of some lengths and alphabets, over both dictionaries.
     fn objects(&mut self, alphabets: impl Iterator<Item = (usize, Vec<u8>, Vec<u8>)>) -> Going {
         let alphabets: Vec<_> = alphabets.collect();
@@ -409,6 +464,9 @@ fn lines_of(input: &Input) -> String {
     }
     if let Some(value) = &input.tree {
         text += &part("tree      ", value);
+    }
+    if let Some(path) = &input.path {
+        text += &part("path      ", path);
     }
     if let Some(query) = &input.query {
         text += &part("name      ", query);

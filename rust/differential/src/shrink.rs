@@ -25,8 +25,9 @@ fn tries(size: usize) -> usize {
 /// One of the byte strings of an input.
 type Part = fn(&mut Input) -> Option<&mut Vec<u8>>;
 
-const PARTS: [Part; 4] = [
+const PARTS: [Part; 5] = [
     |input| input.query.as_mut(),
+    |input| input.path.as_mut(),
     |input| input.object.as_mut(),
     |input| input.tree.as_mut(),
     |input| Some(&mut input.dict),
@@ -272,6 +273,7 @@ impl<F: Fn(&Input) -> bool> Search<F> {
         self.change(|input| input.query = None);
         self.change(|input| input.object = None);
         self.change(|input| input.tree = None);
+        self.change(|input| input.path = None);
         self.inner();
         for things in &THINGS {
             self.fewer(things);

@@ -65,6 +65,22 @@ pub struct Tally {
     pub trees_over_refused: u64,
     /// Values in trees that both accept, each compared.
     pub tree_values: u64,
+    /// Paths whose answers are those of the plain walk, by our number.
+    pub paths: BTreeMap<u32, u64>,
+    /// Of these, the ones that the Rust reads, in the same steps.
+    pub paths_read: u64,
+    /// And how many steps they have.
+    pub path_steps: u64,
+    /// Paths in a byte or a word of room too little, refused with 76.
+    pub paths_without_room: u64,
+    /// Paths at which `get_path` finds the value that we do.
+    pub paths_found: u64,
+    /// Of these, the ones to a leaf whose place a copy tells.
+    pub paths_traced: u64,
+    /// Paths at which it finds nothing, and we say absent or 53.
+    pub paths_to_nothing: u64,
+    /// Paths that the Rust reads, into values that it does not accept, or is not asked.
+    pub paths_unasked: u64,
     /// Lookups that found what `get` yields.
     pub found: u64,
     /// Lookups that are absent where `get` yields nothing.
@@ -223,6 +239,20 @@ impl fmt::Display for Tally {
         )?;
         line("  over a refused dictionary", self.trees_over_refused)?;
         line("values in trees, each compared", self.tree_values)?;
+        for (number, count) in &self.paths {
+            match number {
+                0 => line("paths found", *count)?,
+                1 => line("paths absent", *count)?,
+                _ => line(&format!("paths refused, {number}"), *count)?,
+            }
+        }
+        line("  read by both, in the same steps", self.paths_read)?;
+        line("  their steps", self.path_steps)?;
+        line("  found by get_path, the same value", self.paths_found)?;
+        line("  of these, leaves whose place is told", self.paths_traced)?;
+        line("  nothing by get_path, 1 or 53", self.paths_to_nothing)?;
+        line("  into what the Rust does not accept", self.paths_unasked)?;
+        line("paths without room, 76", self.paths_without_room)?;
         line("lookups found", self.found)?;
         line("lookups absent", self.absent)?;
         line(

@@ -27,7 +27,7 @@ use std::ops::Range;
 
 /// The Rust is asked, and the reference goes each way, where no more values are met than these and
 /// as many as there are bytes.
-const ASKED: usize = 20_000;
+pub(crate) const ASKED: usize = 20_000;
 
 /// Both are walked where no more values than these are met: each is asked for several times.
 const WALKED: usize = 400;

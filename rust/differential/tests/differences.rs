@@ -6,7 +6,9 @@ use differential::exhaustive::{all_bytes, each};
 use differential::fixed::SORTED;
 use differential::trees::nest;
 use lichenhusk::{LEVELS, LIMIT, Refusal, Value};
-use parquet_variant::{MAX_NESTING_DEPTH, Variant, VariantMetadata, VariantObject, VariantPath};
+use parquet_variant::{
+    MAX_NESTING_DEPTH, Variant, VariantMetadata, VariantObject, VariantPath, VariantPathElement,
+};
 use std::panic::catch_unwind;
 use std::time::{Duration, Instant};
 
@@ -382,11 +384,167 @@ fn field_past_the_last() {
     assert_eq!(object.field(0), None);
 }
 
-/// Documented as a field, a name in brackets without quotes is refused.
+/// The Rust's steps of a path, in words; nothing where it refuses it.
+fn read_path(text: &str) -> Option<String> {
+    let path = VariantPath::try_from(text).ok()?;
+    let step = |element: &VariantPathElement| match element {
+        VariantPathElement::Field { name } => format!("name {name}"),
+        VariantPathElement::Index { index } => format!("index {index}"),
+    };
+    Some(path.iter().map(step).collect::<Vec<_>>().join(", "))
+}
+
+/// Documented as a field, a name in brackets without quotes is refused, by us too.
 #[test]
 fn paths_without_quotes() {
-    assert!(VariantPath::try_from("[field]").is_err());
-    assert!(VariantPath::try_from("['field']").is_ok());
+    assert_eq!(read_path("[a]"), None);
+    assert_eq!(read_path("['a']").as_deref(), Some("name a"));
+    assert_eq!(ours(&[0], "[a]"), Err((75, 0)));
+}
+
+/// Documented to be literal after a backslash, a quote closes all the same and a digit counts: quotes and
+/// numbers are looked for when the backslashes are gone. Ours are the same.
+#[test]
+fn paths_with_backslashes() {
+    for (text, due) in [
+        (r"['\']", "name "),
+        (r"[\'\']", "name "),
+        (r"['a\']", "name a"),
+        (r"[\0]", "index 0"),
+        (r"[\+5]", "index 5"),
+    ] {
+        assert_eq!(read_path(text).as_deref(), Some(due), "{text}");
+        assert_eq!(ours(&[0], text), Err((53, 0)), "{text}");
+    }
+    assert_eq!(read_path(r"[\]"), None);
+}
+
+/// Taken, and documented nowhere: a plus, zeros before a number, a name after a bracket without a dot, a
+/// name of no bytes, quotes and spaces in a plain name. Ours are the same.
+#[test]
+fn paths_that_are_taken_besides() {
+    for (text, due) in [
+        ("[+0]", "index 0"),
+        ("[00]", "index 0"),
+        ("[0]a", "index 0, name a"),
+        ("['']", "name "),
+        ("['''']", "name ''"),
+        ("'a'", "name 'a'"),
+        (" ", "name  "),
+    ] {
+        assert_eq!(read_path(text).as_deref(), Some(due), "{text}");
+        assert_eq!(ours(&[0], text), Err((53, 0)), "{text}");
+    }
+}
+
+/// Start and end of what stands at a path, or nothing where it is absent; number and place of a refusal.
+type Stands = Result<Option<(usize, usize)>, (u32, u32)>;
+
+/// What stands at a path over document 01's dictionary.
+fn ours(value: &[u8], text: &str) -> Stands {
+    let found = lichenhusk::path(SORTED, value, text);
+    let found = found.map_err(|refusal| (refusal.number(), refusal.place()))?;
+    Ok(found.map(|found| (found.start, found.start + found.bytes.len())))
+}
+
+/// Whether the Rust finds something at a path; nothing where it refuses the path or the whole tree.
+fn theirs(value: &[u8], text: &str) -> Option<bool> {
+    let path = VariantPath::try_from(text).ok()?;
+    let value = Variant::try_new(SORTED, value).ok()?;
+    Some(value.get_path(&path).is_some())
+}
+
+/// Both answers.
+fn both(value: &[u8], text: &str) -> (Stands, Option<bool>) {
+    (ours(value, text), theirs(value, text))
+}
+
+/// 53: to the Rust, a step into a value of another kind finds nothing, as one to an absent field. No
+/// shorter path has a step, and no shorter value is one.
+#[test]
+fn steps_into_another_kind() {
+    assert_eq!(both(&[0], "a"), (Err((53, 0)), Some(false)));
+    let object = [2, 1, 0, 0, 1, 0];
+    for (text, step) in [("[0]", 0), ("flow.a", 1), ("flow[0]", 1)] {
+        assert_eq!(
+            both(&object, text),
+            (Err((53, step)), Some(false)),
+            "{text}"
+        );
+    }
+    assert_eq!(both(&object, "a"), (Ok(None), Some(false)));
+}
+
+/// A path looks at the layers on its way alone, and reads nothing; the Rust's validation looks at the
+/// whole tree.
+#[test]
+fn beside_a_path() {
+    assert_eq!(both(&[], ""), (Ok(Some((0, 0))), None));
+    let list = [3, 2, 0, 1, 2, 0x54, 0];
+    assert_eq!(both(&list, "[1]"), (Ok(Some((6, 7))), None));
+    assert_eq!(both(&list, "[0]"), (Ok(Some((5, 6))), None));
+    // The levels of a tree, 32 and 128, are no limit to a path.
+    let deep = nest(200, &[0], |_| true);
+    let leaf = (deep.len() - 1, deep.len());
+    assert_eq!(both(&deep, &"[0]".repeat(200)), (Ok(Some(leaf)), None));
+}
+
+/// A list's elements may begin after its region does, and have no bytes; the Rust refuses both. No
+/// shorter list has an element.
+#[test]
+fn elements_at_a_path() {
+    let empty = b"\x03\x01\x00\x00";
+    assert_eq!(both(empty, "[0]"), (Ok(Some((4, 4))), None));
+    let after = b"\x03\x01\x01\x02\xFC\x00";
+    assert_eq!(both(after, "[0]"), (Ok(Some((5, 6))), None));
+}
+
+/// 20: the Rust has no limit of length. The empty path has none on either side.
+#[test]
+fn long_values_at_a_path() {
+    let mut value = vec![0; LIMIT + 1];
+    value[0] = 2;
+    assert_eq!(both(&value, "a"), (Err((20, 0)), Some(false)));
+    assert_eq!(both(&value, ""), (Ok(Some((0, LIMIT + 1))), Some(true)));
+}
+
+/// Documented to return nothing where a path is not found, `get_path` panics on what was not validated;
+/// we refuse it by number, or find an element of no bytes. No shorter list has an element.
+#[test]
+fn get_path_panics() {
+    for (why, value, text, due) in [
+        (
+            "an element of no bytes",
+            &b"\x03\x01\x00\x00"[..],
+            "[0]",
+            Ok(Some((4, 4))),
+        ),
+        (
+            "offsets that fall",
+            b"\x03\x02\x00\x01\x00",
+            "[1]",
+            Err((62, 1)),
+        ),
+        (
+            "a child of no bytes",
+            b"\x02\x01\x00\x00\x00",
+            "flow",
+            Err((28, 0)),
+        ),
+        (
+            "an id of no entry",
+            b"\x02\x01\x02\x00\x00",
+            "flow",
+            Err((25, 0)),
+        ),
+    ] {
+        let get = move || {
+            let path = VariantPath::try_from(text).unwrap();
+            Variant::new(SORTED, value).get_path(&path).is_some()
+        };
+        assert!(catch_unwind(get).is_err(), "{why}");
+        assert_eq!(ours(value, text), due, "{why}");
+    }
 }
 
 /// Thirty-two fields that share one child, in one another so deep.

@@ -4,12 +4,15 @@
 use differential::compare::Disagreement;
 use differential::faults::{ALL, Fault, Faulty};
 use differential::otherwise::Otherwise;
-use differential::ours::Archive;
+use differential::ours::{Archive, Reader};
+use differential::path::Followed;
 use differential::reading::Unmeasured;
-use differential::run::{Settings, disagreement, run};
+use differential::run::{Part, Settings, disagreement, run};
 use differential::tally::Tally;
-use differential::{Input, LARGE, fixed, hex, large};
-use lichenhusk::{LEVELS, LIMIT};
+use differential::walk::Walk;
+use differential::{Input, LARGE, fixed, hex, large, paths};
+use lichenhusk::{LEVELS, LIMIT, OK};
+use parquet_variant::VariantMetadata;
 use std::collections::BTreeMap;
 use std::process::Command;
 use std::time::Duration;
@@ -21,7 +24,8 @@ fn small() -> Settings {
         generated: 4_000,
         large: 8,
         trees: 4_000,
-        trees_alone: false,
+        paths: 4_000,
+        part: Part::All,
         every: 2,
         telling: 5,
         limit: Duration::from_secs(600),
@@ -34,10 +38,12 @@ fn told(fault: Fault) -> (Input, Disagreement) {
         reader: Archive,
         fault,
     };
-    let settings = Settings {
-        trees_alone: asked_of_trees(fault).is_some(),
-        ..small()
+    let part = match fault {
+        _ if fault.is_of_paths() => Part::Paths,
+        _ if asked_of_trees(fault).is_some() => Part::Trees,
+        _ => Part::All,
     };
+    let settings = Settings { part, ..small() };
     let outcome = run(&faulty, settings);
     outcome
         .disagreement
@@ -57,6 +63,33 @@ fn the_archive_passes() {
     children_of_every_kind_are_seen(&outcome.tally);
     values_of_every_kind_are_seen(&outcome.tally);
     trees_of_every_kind_are_seen(&outcome.tally);
+    paths_of_every_kind_are_seen(&outcome.tally);
+}
+
+/// Paths get every number, are read and found by the Rust, and have too little room.
+fn paths_of_every_kind_are_seen(tally: &Tally) {
+    let dictionary = (10..=13).chain(15..=18);
+    let layers = (20..=21).chain(23..=28).chain([53]).chain(60..=62);
+    for number in [0, 1]
+        .into_iter()
+        .chain(dictionary)
+        .chain(layers)
+        .chain(70..=75)
+    {
+        let seen = tally.paths.get(&number);
+        assert!(seen.is_some_and(|&seen| seen > 1), "{number}: {seen:?}");
+    }
+    for (what, seen) in [
+        ("read", tally.paths_read),
+        ("steps", tally.path_steps),
+        ("found", tally.paths_found),
+        ("traced", tally.paths_traced),
+        ("to nothing", tally.paths_to_nothing),
+        ("not asked", tally.paths_unasked),
+        ("without room", tally.paths_without_room),
+    ] {
+        assert!(seen > 500, "{what}: {seen}");
+    }
 }
 
 /// Trees get every number, and each thing is seen that the Rust judges otherwise.
@@ -140,7 +173,7 @@ fn most(fault: Fault) -> usize {
         Fault::CountsOfTwoBytes | Fault::IdsOfTwoBytes => 3 * entries + few,
         // With names, and as many fields: an id and an offset each.
         Fault::FieldsOfTwoBytes | Fault::RowsOfTwoBytes => (4 + 6 + 3 + 2) * entries + 2 * few,
-        Fault::NoTreeLimit => LIMIT + 1 + few,
+        Fault::NoTreeLimit | Fault::NoStepLimit => LIMIT + 1 + few,
         // Lists in one another, of four bytes each, or objects, of five.
         Fault::OneLevelLess | Fault::OneLevelMore => 4 * (LEVELS + 1) + few,
         Fault::DepthAfterChecks | Fault::MarksWithoutLevels => 5 * (LEVELS + 1) + few,
@@ -161,6 +194,8 @@ fn each_fault_is_told_by_a_small_input() {
         assert_eq!(found.asked, of_lengths.unwrap_or(&found.asked), "{fault:?}");
         let of_trees = asked_of_trees(fault);
         assert_eq!(found.asked, of_trees.unwrap_or(&found.asked), "{fault:?}");
+        let of_paths = asked_of_paths(fault);
+        assert_eq!(found.asked, of_paths.unwrap_or(&found.asked), "{fault:?}");
         let of_values = asked_of_values(fault);
         assert!(found.asked.starts_with(of_values), "{fault:?}: {found}");
     }
@@ -204,9 +239,86 @@ fn asked_of_trees(fault: Fault) -> Option<&'static str> {
         Fault::TreeBeforeDictionary => Some("a tree over a refused dictionary"),
         Fault::KeepsMarks | Fault::KeepsMarksRefused => Some("marks after a check"),
         Fault::TrustsMarks => Some("a tree's verdict with marks"),
+        _ if fault.is_of_paths() => None,
         _ if fault as usize >= Fault::AcceptsAnyTree as usize => Some("a tree's verdict"),
         _ => None,
     }
+}
+
+/// What tells a wrong answer to a path; nothing of another fault.
+fn asked_of_paths(fault: Fault) -> Option<&'static str> {
+    use Fault::*;
+    match fault {
+        KeepsBackslashes
+        | EscapesOutside
+        | WritesRefusedPaths
+        | LeavesUnderDictionary
+        | LeavesUnderSteps
+        | ClearsTheRest
+        | GapsBetweenNames => Some("the bytes lent for names"),
+        WritesWithoutRoom | LengthForEnd | SwapsIndexWords | SwapsStepKinds => {
+            Some("the words lent for steps")
+        }
+        _ => fault.is_of_paths().then_some("what stands at a path"),
+    }
+}
+
+/// Whether a fault of paths is one of which neither the Rust nor a lookup tells: of room, of bytes that
+/// no step has, or of what is answered over a refused dictionary.
+fn is_told_by_the_walk_alone(fault: Fault) -> bool {
+    let room = Fault::RoomBeforePath as usize..=Fault::WritesRefusedPaths as usize;
+    let others = [
+        Fault::GapsBetweenNames,
+        Fault::EmptyPathUnchecked,
+        Fault::ValueBeforeDictionary,
+    ];
+    room.contains(&(fault as usize)) || others.contains(&fault)
+}
+
+/// What tells a fault where the plain walk has it, too: the Rust, and our own lookups.
+fn told_without_the_walk(fault: Fault) -> Option<String> {
+    let reader = Faulty {
+        reader: Archive,
+        fault,
+    };
+    let asked = |input: Input| {
+        let path = input.path.as_deref()?;
+        let dictionary = Archive.dictionary(&input.dict);
+        let metadata = VariantMetadata::try_new(&input.dict).ok();
+        let metadata = metadata.filter(|_| dictionary.code == OK);
+        let walk = Walk {
+            dict: &input.dict,
+            dictionary,
+            value: input.tree.as_deref()?,
+            path,
+            fault: Some(fault),
+        };
+        let followed = Followed {
+            reader: &reader,
+            walk,
+            metadata: metadata.as_ref(),
+        };
+        Some(followed.compare(&mut Tally::default()).err()?.asked)
+    };
+    paths::fixed().chain(paths::of_length()).find_map(asked)
+}
+
+/// The plain walk is not all that tells: what is read wrong, the Rust's own reading does, and what is
+/// followed wrong, its `get_path` and our lookups one after another.
+#[test]
+fn faults_of_paths_without_the_walk() {
+    let (mut by_reading, mut by_following) = (0, 0);
+    for fault in ALL.into_iter().filter(|fault| fault.is_of_paths()) {
+        match told_without_the_walk(fault).as_deref() {
+            Some("the steps of a path" | "a path's verdict" | "a path that is no text") => {
+                by_reading += 1
+            }
+            Some("single lookups, one after another" | "a path by get_path") => by_following += 1,
+            None if is_told_by_the_walk_alone(fault) => {}
+            other => panic!("{fault:?} is told by {other:?}"),
+        }
+    }
+    assert_eq!((by_reading, by_following), (33, 21));
 }
 
 #[test]
@@ -217,7 +329,7 @@ fn every_fault_is_tried() {
             "in the order of the enum, none left out"
         );
     }
-    assert_eq!(Fault::TrustsMarks as usize, ALL.len() - 1);
+    assert_eq!(Fault::FindsBeginnings as usize, ALL.len() - 1);
 }
 
 /// Of very many fields, the lookup of all their names is told, which stands for the listing.
@@ -321,6 +433,16 @@ fn a_panic_is_told() {
             unreachable!()
         }
         fn tree(&self, _: &[u8], _: &[u8], _: &mut [u8]) -> lichenhusk::Strip {
+            unreachable!()
+        }
+        fn path(
+            &self,
+            _: &[u8],
+            _: &[u8],
+            _: &[u8],
+            _: &mut [u8],
+            _: &mut [u32],
+        ) -> lichenhusk::Strip {
             unreachable!()
         }
     }

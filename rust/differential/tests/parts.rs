@@ -12,11 +12,13 @@ use differential::ours::{Archive, Reader, accepted, refused};
 use differential::random::Random;
 use differential::reading::{DictionaryParts, ObjectParts, PAYLOADS, Unmeasured, own_length};
 use differential::reference::Tree;
+use differential::spelling::{Spelling, Step, names_of, words_of};
 use differential::tally::Tally;
 use differential::tree::{children as children_of, visits};
 use differential::values::{Readings, place};
 use differential::{
-    Input, LARGE, children, damage, extremes, fixed, generate, hex, large, otherwise, shrink, trees,
+    Input, LARGE, children, damage, extremes, fixed, generate, hex, large, otherwise, paths,
+    shrink, trees,
 };
 use parquet_variant::{Variant, VariantMetadata, VariantObject};
 use std::collections::BTreeSet;
@@ -543,4 +545,82 @@ fn met(value: &[u8], headers: &mut BTreeSet<u8>) -> usize {
     let places = children_of(value).map_or(vec![], |(_, places)| places);
     let below = places.into_iter().map(|place| met(&value[place], headers));
     1 + below.max().unwrap_or(0)
+}
+
+/// Paths that are spelled from steps are read as these, in every spelling; and others are refused.
+#[test]
+fn spellings_are_read_back() {
+    let mut random = Random::seeded(3);
+    let steps = [
+        Step::Name(r"a]b\.c".to_string()),
+        Step::Index(u64::MAX),
+        Step::Name("é".to_string()),
+        Step::Name(String::new()),
+        Step::Name("a".to_string()),
+        Step::Index(0),
+    ];
+    let read = |text: &[u8]| Spelling { fault: None }.steps(text);
+    let mut seen = BTreeSet::new();
+    for length in 0..=steps.len() {
+        for _ in 0..200 {
+            let text = paths::spelled(&mut random, &steps[..length]);
+            assert_eq!(
+                read(text.as_bytes()).as_deref(),
+                Ok(&steps[..length]),
+                "{text}"
+            );
+            seen.insert(text);
+        }
+    }
+    assert!(seen.len() > 500, "{}", seen.len());
+    assert_eq!(names_of(&steps), r"a]b\.céa".as_bytes());
+    let words = [
+        0,
+        0,
+        6,
+        1,
+        u32::MAX,
+        u32::MAX,
+        0,
+        6,
+        8,
+        0,
+        8,
+        8,
+        0,
+        8,
+        9,
+        1,
+        0,
+        0,
+    ];
+    assert_eq!(words_of(&steps), words);
+    for (number, text) in (70..).zip([&b"\xC3"[..], b".", b"a.", b"]", b"[", b"[]"]) {
+        assert_eq!(read(text), Err(number));
+    }
+}
+
+/// Paths into trees lead somewhere, by names and by indices, in several layers; and copies are other ones.
+#[test]
+fn paths_into_trees() {
+    let mut random = Random::seeded(5);
+    let (mut names, mut indices, mut deep, mut damaged) = (0, 0, 0, 0);
+    for _ in 0..2_000 {
+        let input = paths::followed(&mut random);
+        let path = input.path.as_deref().unwrap();
+        let steps = Spelling { fault: None }.steps(path).unwrap();
+        for step in &steps {
+            match step {
+                Step::Name(_) => names += 1,
+                Step::Index(_) => indices += 1,
+            }
+        }
+        deep += usize::from(steps.len() > 2);
+        damaged += usize::from(paths::damaged(&mut random, &input) != input);
+    }
+    assert!(
+        names > 500 && indices > 500 && deep > 300,
+        "{names}, {indices}, {deep}"
+    );
+    assert!(damaged > 1_500, "{damaged}");
 }

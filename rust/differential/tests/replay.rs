@@ -34,6 +34,12 @@ fn ours(case: &str) -> (Strip, Vec<u32>) {
         ["value", v] => Archive.value(&bytes(v)),
         ["tree", d, v] => Archive.tree(&bytes(d), &bytes(v), &mut []),
         ["lookup", d, o, name] => Archive.lookup(&bytes(d), &bytes(o), &bytes(name)),
+        ["path", d, v, p] => {
+            let (d, v, p) = (bytes(d), bytes(v), bytes(p));
+            assert!(d.len().max(v.len()).max(p.len()) <= 256);
+            let (mut names, mut words) = ([0; 256], [0; 3 * 256]);
+            Archive.path(&d, &v, &p, &mut names, &mut words)
+        }
         ["all", d, o, run, room, ref ends @ ..] => {
             let (d, o, run) = (bytes(d), bytes(o), bytes(run));
             let mut lent = vec![BEFORE; number(room) as usize];
@@ -98,7 +104,7 @@ fn kind(case: &str, says: &str) -> String {
 }
 
 /// What lines there must be.
-const KINDS: [&str; 56] = [
+const KINDS: [&str; 74] = [
     "dictionary accepts",
     "dictionary refuses 11",
     "dictionary refuses 12",
@@ -155,6 +161,24 @@ const KINDS: [&str; 56] = [
     "tree refuses 62",
     "tree refuses 11",
     "tree refuses 12",
+    "path found",
+    "path absent",
+    "path refuses 13",
+    "path refuses 21",
+    "path refuses 23",
+    "path refuses 25",
+    "path refuses 26",
+    "path refuses 27",
+    "path refuses 28",
+    "path refuses 53",
+    "path refuses 60",
+    "path refuses 62",
+    "path refuses 70",
+    "path refuses 71",
+    "path refuses 72",
+    "path refuses 73",
+    "path refuses 74",
+    "path refuses 75",
 ];
 
 #[test]

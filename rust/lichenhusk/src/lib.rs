@@ -5,7 +5,8 @@
 //! dictionary and one layer of an object, finds a field by its name, or many by theirs, lists the
 //! fields, and reads a value. It does not look into the children, but for how long each is where they
 //! are listed: a child is handed back as bytes of the object, which can be read as a value in turn.
-//! [`check_tree`] checks a value with all that is below it.
+//! [`check_tree`] checks a value with all that is below it, and [`path`](path()) follows names and
+//! indices into it.
 //!
 //! Each call checks what it is lent from the start, and keeps and copies nothing. Any bytes may
 //! be lent; what is wrong with them is a [`Refusal`] with a number and a place. What a C caller
@@ -42,6 +43,7 @@
 #![warn(missing_docs)]
 
 mod message;
+mod path;
 #[allow(unsafe_code)]
 pub mod raw;
 mod refusal;
@@ -50,6 +52,7 @@ mod tree;
 mod value;
 
 pub use message::Message;
+pub use path::{Reached, path, path_with};
 pub use refusal::Refusal;
 pub use strip::Strip;
 pub use tree::{TreeRefusal, check_tree, check_tree_with};
@@ -67,6 +70,9 @@ pub const WORDS_PER_FIELD: usize = 3;
 /// The words for each of many names.
 pub const WORDS_PER_NAME: usize = 5;
 
+/// The words for each step of a path.
+pub const WORDS_PER_STEP: usize = 3;
+
 /// The most objects and lists that may stand in one another in a tree.
 pub const LEVELS: usize = 32;
 
@@ -76,7 +82,7 @@ pub const OWN_MARKS: usize = 65_536;
 /// The code of what was accepted, found or written.
 pub const OK: u32 = 0;
 
-/// The code of a name that no field has.
+/// The code of a name that no field has, and of an index past a list.
 pub const ABSENT: u32 = 1;
 
 /// An accepted dictionary.
@@ -194,8 +200,7 @@ pub fn layer(dict: &[u8], object: &[u8]) -> Result<Layer, Refusal> {
 /// ```
 pub fn lookup(dict: &[u8], object: &[u8], name: &[u8]) -> Result<Option<Found>, Refusal> {
     let strip = Strip::of(|strip| raw::lookup(dict, object, name, strip)).accepted()?;
-    let row = [strip.code, strip.number, strip.id, strip.start, strip.end];
-    Ok(found_of(row))
+    Ok(found_of(strip.row()))
 }
 
 /// As [`lookup`], and hands back the child as a part of the object.

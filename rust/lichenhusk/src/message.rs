@@ -1,6 +1,6 @@
 //! A dictionary and an object, asked together.
 
-use crate::{Field, Found, Layer, Refusal, TreeRefusal, Value};
+use crate::{Field, Found, Layer, Reached, Refusal, TreeRefusal, Value};
 
 /// A dictionary and an object over it, as they came.
 ///
@@ -103,6 +103,39 @@ impl<'m> Message<'m> {
     /// ```
     pub fn value(self, name: impl AsRef<[u8]>) -> Result<Option<Value<'m>>, Refusal> {
         crate::find(self.dict, self.object, name.as_ref())?.value()
+    }
+
+    /// What stands at a path, as [`path`](crate::path()) follows it. The message's value may be of any
+    /// kind here.
+    ///
+    /// ```
+    /// use lichenhusk::Message;
+    ///
+    /// let dict = b"\x11\x02\x00\x04\x08flowroll";
+    /// let value = b"\x02\x01\x00\x00\x08\x03\x02\x00\x02\x03\x0C\xFB\x04";
+    /// let message = Message::new(dict, value);
+    /// assert_eq!(message.path("flow[1]")?.map(|found| found.bytes), Some(&[0x04][..]));
+    /// assert_eq!(message.path("roll")?, None);
+    /// # Ok::<(), lichenhusk::Refusal>(())
+    /// ```
+    pub fn path(self, path: impl AsRef<[u8]>) -> Result<Option<Reached<'m>>, Refusal> {
+        crate::path(self.dict, self.object, path)
+    }
+
+    /// The value at a path, as [`path`](Message::path) finds it and [`value`](crate::value()) reads it.
+    ///
+    /// ```
+    /// use lichenhusk::{Message, Value};
+    ///
+    /// let dict = b"\x11\x02\x00\x04\x08flowroll";
+    /// let value = b"\x02\x01\x00\x00\x08\x03\x02\x00\x02\x03\x0C\xFB\x04";
+    /// let message = Message::new(dict, value);
+    /// assert_eq!(message.value_at("flow[0]")?, Some(Value::I8(-5)));
+    /// assert_eq!(message.value_at("flow[2]")?, None);
+    /// # Ok::<(), lichenhusk::Refusal>(())
+    /// ```
+    pub fn value_at(self, path: impl AsRef<[u8]>) -> Result<Option<Value<'m>>, Refusal> {
+        self.path(path)?.map(Reached::value).transpose()
     }
 
     /// Lists the fields, as [`list`](crate::list()) does.

@@ -93,6 +93,21 @@ unsafe extern "C" {
         strip_len: usize,
     ) -> u32;
 
+    fn lichenhusk_path(
+        dict: *const u8,
+        dict_len: usize,
+        value: *const u8,
+        value_len: usize,
+        path: *const u8,
+        path_len: usize,
+        names: *mut u8,
+        names_len: usize,
+        words: *mut u32,
+        words_len: usize,
+        strip: *mut u8,
+        strip_len: usize,
+    ) -> u32;
+
     fn lichenhusk_empty(room: *mut u8, room_len: usize) -> u32;
 }
 
@@ -211,6 +226,35 @@ pub fn tree(dict: &[u8], value: &[u8], marks: &mut [u8], strip: &mut [u8]) -> u3
             value.len(),
             marks.as_mut_ptr(),
             marks.len(),
+            strip.as_mut_ptr(),
+            strip.len(),
+        )
+    }
+}
+
+/// Follows a path into a value; the strip holds the last step's field, id, start and end. The steps go
+/// to the names and to the words, three each, unless it is the path that is refused.
+pub fn path(
+    dict: &[u8],
+    value: &[u8],
+    path: &[u8],
+    names: &mut [u8],
+    words: &mut [u32],
+    strip: &mut [u8],
+) -> u32 {
+    // SAFETY: as the head of this module says.
+    unsafe {
+        lichenhusk_path(
+            dict.as_ptr(),
+            dict.len(),
+            value.as_ptr(),
+            value.len(),
+            path.as_ptr(),
+            path.len(),
+            names.as_mut_ptr(),
+            names.len(),
+            words.as_mut_ptr(),
+            words.len(),
             strip.as_mut_ptr(),
             strip.len(),
         )

@@ -11,7 +11,8 @@ use std::fmt;
 /// before what it describes, and then entry by entry and field by field: 25 and 26 of each field
 /// first, and when all are done, 27 and 28 of each. Of a listing, 43 comes after these, and 41 last. A
 /// value that is read gets 50 or 51 and no other. Of a tree, an object or a list has its own checks
-/// before its children, and these come in their order.
+/// before its children, and these come in their order. A path's own refusals, 70 to 76, come before
+/// the dictionary's, and then the value is checked step by step.
 ///
 /// ```
 /// let refusal = lichenhusk::dictionary(&[1, 1, 0, 1, 0xFF]).unwrap_err();
@@ -122,18 +123,40 @@ pub enum Refusal {
     ValueType,
     /// 52: of a tree, an object or a list stands inside [`LEVELS`] others.
     ValueTooDeep,
+    /// 53: of a path, a step goes into a value of another kind: a name into what is no object, or an
+    /// index into what is no list.
+    StepKind {
+        /// Which step, counted from 0.
+        step: u32,
+    },
     /// 54: of a tree, a string is not UTF-8.
     ValueNotUtf8,
-    /// 60: of a tree, a list ends before its count, its offsets or its elements do.
+    /// 60: of a tree or a path, a list ends before its count, its offsets or its elements do.
     ListShort,
-    /// 61: of a tree, a list's count or last offset asks for a place above 4,294,967,295.
+    /// 61: of a tree or a path, a list's count or last offset asks for a place above 4,294,967,295.
     ListOverflow,
-    /// 62: of a tree, an element's offset is above the next one or above the length of the elements'
-    /// bytes.
+    /// 62: of a tree or a path, an element's offset is above the next one or above the length of the
+    /// elements' bytes.
     ListOffset {
         /// The first such element.
         element: u32,
     },
+    /// 70: the path is not UTF-8.
+    PathNotUtf8,
+    /// 71: the path begins with a dot.
+    PathLeadingDot,
+    /// 72: the path ends with a dot.
+    PathTrailingDot,
+    /// 73: in the path a dot or a bracket stands where none may: after a dot, or a closing bracket
+    /// that nothing opened.
+    PathUnexpected,
+    /// 74: in the path a bracket is not closed.
+    PathUnclosed,
+    /// 75: in the path, what is in brackets is neither quoted nor a number below 2 to the 64th.
+    PathBracket,
+    /// 76: there are fewer than three words of room for each step of the path, or fewer bytes than its
+    /// names have, or these pass 4,294,967,295.
+    PathNoRoom,
 }
 
 use Refusal::*;
@@ -178,10 +201,18 @@ impl Refusal {
             50 => ValueShort,
             51 => ValueType,
             52 => ValueTooDeep,
+            53 => StepKind { step: place },
             54 => ValueNotUtf8,
             60 => ListShort,
             61 => ListOverflow,
             62 => ListOffset { element: place },
+            70 => PathNotUtf8,
+            71 => PathLeadingDot,
+            72 => PathTrailingDot,
+            73 => PathUnexpected,
+            74 => PathUnclosed,
+            75 => PathBracket,
+            76 => PathNoRoom,
             _ => return None,
         })
     }
@@ -229,10 +260,18 @@ impl Refusal {
             ValueShort => 50,
             ValueType => 51,
             ValueTooDeep => 52,
+            StepKind { .. } => 53,
             ValueNotUtf8 => 54,
             ListShort => 60,
             ListOverflow => 61,
             ListOffset { .. } => 62,
+            PathNotUtf8 => 70,
+            PathLeadingDot => 71,
+            PathTrailingDot => 72,
+            PathUnexpected => 73,
+            PathUnclosed => 74,
+            PathBracket => 75,
+            PathNoRoom => 76,
         }
     }
 
@@ -246,6 +285,7 @@ impl Refusal {
             ChildLength { field } => field,
             NamesEnd { name } => name,
             ListOffset { element } => element,
+            StepKind { step } => step,
             _ => 0,
         }
     }
@@ -337,6 +377,10 @@ impl fmt::Display for Refusal {
                 to,
                 "the value is an object or a list inside {LEVELS} others"
             ),
+            StepKind { step } => write!(
+                to,
+                "step {step} of the path is a name and the value no object, or an index and the value no list"
+            ),
             ValueNotUtf8 => write!(to, "the value is a string that is not UTF-8"),
             ListShort => write!(
                 to,
@@ -349,6 +393,22 @@ impl fmt::Display for Refusal {
             ListOffset { element } => write!(
                 to,
                 "the offset of the list's element {element} is above the next or above the length of the elements' bytes"
+            ),
+            PathNotUtf8 => write!(to, "the path is not UTF-8"),
+            PathLeadingDot => write!(to, "the path begins with a dot"),
+            PathTrailingDot => write!(to, "the path ends with a dot"),
+            PathUnexpected => write!(
+                to,
+                "the path has a dot or a bracket after a dot, or a closing bracket that nothing opened"
+            ),
+            PathUnclosed => write!(to, "the path has a bracket that is not closed"),
+            PathBracket => write!(
+                to,
+                "what the path has in brackets is neither quoted nor a number below 18446744073709551616"
+            ),
+            PathNoRoom => write!(
+                to,
+                "there are fewer than three words of room for each step of the path, or fewer bytes than its names have"
             ),
         }
     }

@@ -1,6 +1,6 @@
 //! The six words of an answer.
 
-use crate::{ABSENT, OK, Refusal, STRIP_BYTES};
+use crate::{ABSENT, OK, Refusal, STRIP_BYTES, WORDS_PER_NAME};
 
 /// An answer as it stands in a strip: six numbers.
 ///
@@ -16,7 +16,8 @@ use crate::{ABSENT, OK, Refusal, STRIP_BYTES};
 pub struct Strip {
     /// What was answered: 0, 1 or the number of a refusal.
     pub code: u32,
-    /// An entry count, a field count, a field or a value's kind, by the function that was asked.
+    /// An entry count, a field count, a field, an index or a value's kind, by the function that was
+    /// asked.
     pub number: u32,
     /// The dictionary's entry that is the name of a field that was found.
     pub id: u32,
@@ -62,6 +63,11 @@ impl Strip {
     /// ```
     pub fn bits(self) -> u64 {
         u64::from(self.end) << 32 | u64::from(self.start)
+    }
+
+    /// What a name's row among many has.
+    pub(crate) fn row(self) -> [u32; WORDS_PER_NAME] {
+        [self.code, self.number, self.id, self.start, self.end]
     }
 
     /// Has a function fill a strip, and reads it.

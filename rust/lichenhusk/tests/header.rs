@@ -2,7 +2,7 @@
 
 use lichenhusk::{
     ABSENT, Kind, LEVELS, LIMIT, OK, OWN_MARKS, Refusal, STRIP_BYTES, WORDS_PER_FIELD,
-    WORDS_PER_NAME,
+    WORDS_PER_NAME, WORDS_PER_STEP,
 };
 use std::collections::BTreeMap;
 use std::fmt::Debug;
@@ -58,6 +58,10 @@ fn every_number_is_there() {
         (
             "LICHENHUSK_WORDS_PER_NAME".to_string(),
             WORDS_PER_NAME as u32,
+        ),
+        (
+            "LICHENHUSK_WORDS_PER_STEP".to_string(),
+            WORDS_PER_STEP as u32,
         ),
         ("LICHENHUSK_EMPTY_BYTES".to_string(), 3),
         ("LICHENHUSK_LEVELS".to_string(), LEVELS as u32),
@@ -279,6 +283,83 @@ int main(void)
     return 0;
 }
 "#;
+
+/// What the header's piece of code for a path is put into.
+const AROUND_PATH: [&str; 2] = [
+    r#"
+#include <stdio.h>
+#include "lichenhusk.h"
+
+int main(void)
+{
+    const uint8_t dict[] = {0x11, 2, 0, 4, 8, 'f', 'l', 'o', 'w', 'r', 'o', 'l', 'l'};
+    uint8_t strip[LICHENHUSK_STRIP_BYTES];
+"#,
+    "    return 0;\n}\n",
+];
+
+/// That piece of code does what is said before it.
+#[test]
+fn the_example_of_a_path_runs() {
+    let header = header();
+    let mut lines = header
+        .lines()
+        .skip_while(|line| !line.contains("With the example's dictionary, this prints"));
+    let prints = lines.next().and_then(|line| line.split('"').nth(1));
+    let code = lines.take_while(|line| !line.contains("*/"));
+    let code: Vec<&str> = code.map(|line| line.trim_start_matches(" *")).collect();
+    let [before, after] = AROUND_PATH;
+    let printed = printed("path", &[before, &code.join("\n"), "\n", after].concat());
+    assert_eq!(Some(printed.trim_end()), prints);
+    assert_eq!(prints, Some("-5"));
+}
+
+/// The steps of a path as they are written, one that goes into another kind, and one that is refused.
+const STEPS: &str = r#"
+#include <stdio.h>
+#include "lichenhusk.h"
+
+static uint8_t strip[LICHENHUSK_STRIP_BYTES];
+static uint8_t names[8];
+static uint32_t words[3 * LICHENHUSK_WORDS_PER_STEP];
+
+static uint32_t follow(const char *path, size_t length)
+{
+    const uint8_t dict[] = {0x11, 2, 0, 4, 8, 'f', 'l', 'o', 'w', 'r', 'o', 'l', 'l'};
+    const uint8_t value[] = {0x02, 1, 0, 0, 8, 0x03, 2, 0, 2, 3, 0x0C, 0xFB, 0x04};
+
+    return lichenhusk_path(dict, sizeof dict, value, sizeof value,
+                           (const uint8_t *) path, length, names, sizeof names,
+                           words, sizeof words / sizeof words[0], strip, sizeof strip);
+}
+
+int main(void)
+{
+    size_t k;
+
+    if (follow("flow[4294967297].x", 18) != LICHENHUSK_ABSENT)
+        return 1;
+    printf("%.5s:", (const char *) names);
+    for (k = 0; k < 9; k++)
+        printf(" %u", (unsigned) words[k]);
+    if (follow("flow[1].roll", 12) != LICHENHUSK_STEP_KIND)
+        return 2;
+    printf("; step %u of another kind", (unsigned) lichenhusk_word(strip, LICHENHUSK_PLACE));
+    if (follow("flow[1", 6) != LICHENHUSK_PATH_UNCLOSED
+        || follow("flow.flow.x", 11) != LICHENHUSK_PATH_NO_ROOM)
+        return 3;
+    printf("; still %.8s\n", (const char *) names);
+    return 0;
+}
+"#;
+
+#[test]
+fn paths_from_c() {
+    assert_eq!(
+        printed("steps", STEPS),
+        "flowx: 0 0 4 1 1 1 0 4 5; step 2 of another kind; still flowroll\n"
+    );
+}
 
 #[test]
 fn a_tree_from_c() {

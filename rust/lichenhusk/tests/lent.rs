@@ -18,7 +18,7 @@ const CHILD_UNKNOWN: &str = "02 02 00 01 00 01 02 00 FC";
 type Call = (&'static str, fn(&mut [u8]) -> u32);
 
 /// Each call that fills a strip, on bytes that are accepted.
-fn calls() -> [Call; 8] {
+fn calls() -> [Call; 9] {
     [
         ("lookup", |strip| {
             raw::lookup(&hex(D), &hex(P), b"roll", strip)
@@ -36,11 +36,15 @@ fn calls() -> [Call; 8] {
         ("tree", |strip| {
             raw::tree(&hex(D), &hex(P), &mut [7; 3], strip)
         }),
+        ("path", |strip| {
+            let (names, words) = (&mut [7; 4], &mut [7; 3]);
+            raw::path(&hex(D), &hex(P), b"roll", names, words, strip)
+        }),
     ]
 }
 
 /// Each call that fills a strip, on bytes that are refused.
-fn refused_calls() -> [Call; 8] {
+fn refused_calls() -> [Call; 9] {
     [
         ("lookup", |strip| raw::lookup(&[2], &hex(P), b"roll", strip)),
         ("dictionary", |strip| raw::dictionary(&[2], strip)),
@@ -52,6 +56,10 @@ fn refused_calls() -> [Call; 8] {
         }),
         ("value", |strip| raw::value(&[0xFC], strip)),
         ("tree", |strip| raw::tree(&[2], &hex(P), &mut [7; 3], strip)),
+        ("path", |strip| {
+            let (names, words) = (&mut [7; 4], &mut [7; 3]);
+            raw::path(&[2], &hex(P), b"roll", names, words, strip)
+        }),
     ]
 }
 

@@ -232,15 +232,15 @@ fn numbers_and_cases_match() {
         .chain([31])
         .chain(40..=43)
         .chain([45])
-        .chain(50..=52)
-        .chain([54])
+        .chain(50..=54)
         .chain(60..=62)
+        .chain(70..=76)
         .collect();
     assert_eq!(numbers, all);
     for number in all {
         let refusal = Refusal::of(number, 5).unwrap();
         assert_eq!(refusal.number(), number);
-        let has_place = matches!(number, 16..=19 | 25..=28 | 43 | 45 | 62);
+        let has_place = matches!(number, 16..=19 | 25..=28 | 43 | 45 | 53 | 62);
         assert_eq!(refusal.place(), if has_place { 5 } else { 0 });
         assert_eq!(
             Refusal::of(refusal.number(), refusal.place()),
@@ -253,7 +253,7 @@ fn numbers_and_cases_match() {
 #[test]
 fn each_says_what_it_is() {
     let mut seen = std::collections::HashSet::new();
-    for number in 10..=62 {
+    for number in 10..=76 {
         let Some(refusal) = Refusal::of(number, 6) else {
             continue;
         };
@@ -266,7 +266,7 @@ fn each_says_what_it_is() {
         }
         assert!(seen.insert(words.to_string()), "{text}");
     }
-    assert_eq!(seen.len(), 32);
+    assert_eq!(seen.len(), 40);
     for refusal in [Refusal::DictionaryTooLong, Refusal::ObjectTooLong] {
         let text = refusal.to_string();
         assert!(text.ends_with("is longer than 16777216 bytes"), "{text}");
