@@ -1,9 +1,11 @@
 -- By which table the answer to one index is settled. Assumes nothing.
-use Rattle.rules.proofs.Prelude.{_≡_, _∙_, List, [], _∷_, ℕ, _+_, _≤_, _<_, first, accept, gives, refuse, pass, stop, _&_}
+use Rattle.rules.proofs.Prelude.{_≡_, sym, _∙_, List, [], _∷_, ℕ, _+_, _≤_, _<_, first, accept, gives, refuse, pass, stop, _&_}
 use Rattle.rules.proofs.Prelude.{stops, goes, first-pass, refused, answered, lt-ltb, le-ltb}
 use Rattle.layout.specs.declared.Widths.{Widths}
 use Rattle.layout.specs.Layout.{count, childStart}
+use Rattle.list.specs.declared.Span.{Span}
 use Rattle.list.specs.List as list
+use Rattle.list.specs.Steps.{ElementOf}
 use Rattle.elements.specs.Element.{headRules, checks, element}
 use Rattle.elements.specs.Promises.{Lead}
 
@@ -33,3 +35,7 @@ module _ (v : List ℕ) (n : ℕ) where
       pub is-found : n < count w v → element v n ≡ accept (n ∷ 0 ∷ childStart w v n ∷ childStart w v (n + 1) ∷ [])
       unfolding element
       is-found h = answered _ (list-checks v w l ∙ e) ∙ rw (← l .widths-are, lt-ltb n (count w v) h)
+
+      -- what is told of its place
+      pub found-so : n < count w v → {r : Span} → ElementOf w v n r → accept (n ∷ 0 ∷ r .start ∷ r .end ∷ []) ≡ element v n
+      found-so h span = rw (span .start-is, span .end-is) (sym (is-found h))

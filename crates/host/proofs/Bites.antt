@@ -1,5 +1,5 @@
 -- None of document 01's six wrong versions meets its promise, nor one for request c), nor one for many names, nor three for values, nor three for
--- trees, by the worked cases: a function that meets it and is one of them cannot be. Assumes nothing.
+-- trees, nor two for paths, by the worked cases: a function that meets it and is one of them cannot be. Assumes nothing.
 use Rattle.rules.proofs.Prelude.{_≡_, ap, _∙_, List, [], _∷_, ℕ, _+_, arith, getD, replicate, accept}
 use denote.Ref.{RefT}
 use lib.IntN.{pos}
@@ -26,7 +26,12 @@ use Rattle.marked.specs.declared.Verdict.{Verdict as TreeVerdict}
 use Rattle.marked.specs.declared.Verdict.the-variants as tree
 use Rattle.tree.specs.Promises.{CheckPromise as TreePromise}
 use Rattle.tree.proofs.Pinned.{check-pinned as tree-pinned}
-use Rattle.host.specs.Worked.{Told, D, P, alone, unknown, inside, flow, roll, run}
+use Rattle.strides.specs.declared.Stride.the-variants as stride
+use Rattle.path.specs.declared.Asked.{Asked}
+use Rattle.path.specs.declared.Asked.the-variants.{Walked}
+use Rattle.path.specs.Answers.{askedNumbers}
+use Rattle.path.specs.Path.{byPath}
+use Rattle.host.specs.Worked.{Told, D, P, alone, unknown, inside, nested, flow, roll, flowRoll, bytes, triples, run}
 use Rattle.host.specs.Worked.Told.{leaves}
 use Rattle.host.proofs.Worked.{worked}
 
@@ -162,3 +167,21 @@ module _ (check : List ℕ → List ℕ → TreeVerdict) (meets : (d v : List �
       let accepted : check D (inside 32) ≡ tree.Accepted 129 = tree-pinned D (inside 32) _ _ (meets D (inside 32)) (cc) in
       let says = rw (wrong 129 accepted) at (meets D (inside 33)) in
       let z : _≡_ {A = ℕ} 0 52 = cc in omega arith
+
+module _ (get : (d v path names words : List ℕ) → Asked)
+    (meets : (d v path names words : List ℕ) → askedNumbers (get d v path names words) ≡ byPath d v path names words) where
+  -- one that stops at the first step: it answers `flow.roll` as `flow`
+  pub not-the-first-step : ((d v names words : List ℕ) → get d v flowRoll names words ≡ get d v flow names words) → ⊥
+  not-the-first-step wrong =
+      let first = ap (at 58) worked in
+      let both = ap (at 59) worked in
+      let says = rw (wrong D nested bytes triples) at (meets D nested flowRoll bytes triples) in
+      let is = meets D nested flow bytes triples in
+      let z : _≡_ {A = ℕ} 5 10 = cc in omega arith
+
+  -- one that answers absent always
+  pub not-always-nowhere : ((d v path names words : List ℕ) → get d v path names words ≡ Walked stride.Absent) → ⊥
+  not-always-nowhere wrong =
+      let is = ap (at 57) worked in
+      let says = rw (wrong D P roll bytes triples) at (meets D P roll bytes triples) in
+      let z : _≡_ {A = ℕ} 0 1 = cc in omega arith
