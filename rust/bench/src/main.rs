@@ -200,7 +200,7 @@ fn followed_paths() {
     for row in paths::rows() {
         let [ours, whole, shallow] = paths::measured(&row);
         println!(
-            "{:<46}{:>7}{:>9}{ours:>11.1}{whole:>14.1}{:>7.2}{shallow:>11.1}{:>7.2}",
+            "{:<46}{:>7}{:>9}{ours:>11.1}{whole:>14.1}{:>7.3}{shallow:>11.1}{:>7.2}",
             row.label,
             row.dict.len(),
             row.value.len(),

@@ -211,21 +211,34 @@ impl<'d, R: Reader> Followed<'_, 'd, R> {
             return differ("a path by get_path", ours, theirs);
         }
         tally.paths_found += 1;
-        if is_container(part) {
-            return Ok(());
+        match is_container(part) {
+            true => Ok(()),
+            false => self.leaf(metadata, ours, path, tally),
         }
-        let mut copy = value.to_vec();
+    }
+
+    /// Where `get_path` reads a leaf, by a copy with an empty short string where we say that it stands.
+    /// Of a tree whose parts overlap, the Rust may refuse the copy.
+    fn leaf(
+        &self,
+        metadata: &VariantMetadata<'d>,
+        ours: Strip,
+        path: &VariantPath,
+        tally: &mut Tally,
+    ) -> Compared {
+        let mut copy = self.walk.value.to_vec();
         copy[ours.start as usize] = EMPTY_SHORT_STRING;
-        if let Ok(whole) = read(&copy) {
-            let theirs = whole.get_path(path);
-            let start = theirs.and_then(|leaf| traced_start(&leaf, &copy));
-            agree(
-                "where get_path reads a leaf",
-                Some(ours.start as usize),
-                start,
-            )?;
-            tally.paths_traced += 1;
-        }
+        let Ok(whole) = Variant::try_new_with_metadata(metadata.clone(), &copy) else {
+            return Ok(());
+        };
+        let theirs = whole.get_path(path);
+        let start = theirs.and_then(|leaf| traced_start(&leaf, &copy));
+        agree(
+            "where get_path reads a leaf",
+            Some(ours.start as usize),
+            start,
+        )?;
+        tally.paths_traced += 1;
         Ok(())
     }
 }
