@@ -31,9 +31,11 @@ use Rattle.path.specs.declared.Asked.{Asked}
 use Rattle.path.specs.declared.Asked.the-variants.{Walked}
 use Rattle.path.specs.Answers.{askedNumbers}
 use Rattle.path.specs.Path.{byPath}
-use Rattle.host.specs.Worked.{Told, D, P, alone, unknown, inside, nested, flow, roll, flowRoll, bytes, triples, run}
+use Rattle.host.specs.Worked.{Told, D, P, alone, unknown, inside, flow, roll, run}
 use Rattle.host.specs.Worked.Told.{leaves}
+use Rattle.host.specs.WorkedPaths.{nested, flowRoll, bytes, triples}
 use Rattle.host.proofs.Worked.{worked}
+use Rattle.host.proofs.WorkedPaths.{worked as walked}
 
 -- row k of the table of worked cases, on both sides
 abbrev pub at : ℕ → List Told → Told
@@ -173,8 +175,8 @@ module _ (get : (d v path names words : List ℕ) → Asked)
   -- one that stops at the first step: it answers `flow.roll` as `flow`
   pub not-the-first-step : ((d v names words : List ℕ) → get d v flowRoll names words ≡ get d v flow names words) → ⊥
   not-the-first-step wrong =
-      let first = ap (at 58) worked in
-      let both = ap (at 59) worked in
+      let first = ap (at 1) walked in
+      let both = ap (at 2) walked in
       let says = rw (wrong D nested bytes triples) at (meets D nested flowRoll bytes triples) in
       let is = meets D nested flow bytes triples in
       let z : _≡_ {A = ℕ} 5 10 = cc in omega arith
@@ -182,6 +184,6 @@ module _ (get : (d v path names words : List ℕ) → Asked)
   -- one that answers absent always
   pub not-always-nowhere : ((d v path names words : List ℕ) → get d v path names words ≡ Walked stride.Absent) → ⊥
   not-always-nowhere wrong =
-      let is = ap (at 57) worked in
+      let is = ap (at 0) walked in
       let says = rw (wrong D P roll bytes triples) at (meets D P roll bytes triples) in
       let z : _≡_ {A = ℕ} 0 1 = cc in omega arith

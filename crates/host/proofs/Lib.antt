@@ -1,4 +1,5 @@
 pub mod Worked
+pub mod WorkedPaths
 pub mod Bites
 pub mod Carries
 pub mod Tells

@@ -25,13 +25,6 @@ use Rattle.run.specs.Run as run
 use Rattle.lookup.specs.ByName as by-name
 use Rattle.many.specs.Many as many
 use Rattle.listing.specs.Words as listing
-use Rattle.elements.specs.Element as elements
-use Rattle.brackets.specs.Brackets as brackets
-use Rattle.steps.specs.Path as steps
-use Rattle.writing.specs.Written as written
-use Rattle.parsing.specs.Parsing as parsing
-use Rattle.strides.specs.Stride.{stride}
-use Rattle.path.specs.Path as path
 use Rattle.strip.specs.Shapes.{bytesOfWords}
 use Rattle.lichenhusk.specs.Strip.{stripAfter}
 use Rattle.host.specs.Worked.{Asked, Told, tell, starred}
@@ -50,9 +43,5 @@ unfolding le bytesOf upTo leadOf tailsOf char textUpTo begins isCut compareOf be
     list.elementRules list.checks leaf.lengthFound leaf.isString leaf.textStart leaf.text leaf.textRules leaf.leaf _andThen_ tree.here tree.from tree.inOrder
     tree.child tree.children tree.layered tree.objectBy tree.listBy tree.valueBy tree.tree tree.levels tree.checksAt tree.verdictAt
     listing.child listing.span listing.spanRules listing.row listing.listChecksWithin listing.listedWithin listing.wordsAfterWithin
-    elements.checks elements.element stride path.walk path.asked path.byPath
-    steps.plain steps.bracket steps.dotted steps.next steps.parse parsing.leadingDot parsing.stepsOf parsing.answer
-    written.weight written.namesOf written.wordsOf written.counted written.total
-    brackets.closes brackets.content brackets.firstOr brackets.lastOr brackets.digits brackets.unsigned brackets.someDigits brackets.number
     bytesOfWords stripAfter
 worked = refl

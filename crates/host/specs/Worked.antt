@@ -18,8 +18,6 @@ use Rattle.value.specs.declared.Value.the-variants.{I8, F32, F32Nan, Bytes}
 use Rattle.value.specs.Reading.{reading}
 use Rattle.value.specs.Answers.{valueNumbers}
 use Rattle.nodes.specs.Tree as trees
-use Rattle.parsing.specs.Parsing.{answer, namesAfter, wordsAfter as stepsAfter}
-use Rattle.path.specs.Path.{byPath}
 use Rattle.lichenhusk.specs.Strip.{lookupWords, stripAfter}
 
 -- what can be asked
@@ -35,9 +33,6 @@ pub data Asked : Type 0 where
   value : (s : List ℕ) → Asked
   told : (s : List ℕ) → Asked
   tree : (d v : List ℕ) → Asked
-  path : (d v path names words : List ℕ) → Asked
-  names : (path names words : List ℕ) → Asked
-  steps : (path names words : List ℕ) → Asked
 
 -- what is told: an answer, what is left in the lent words or bytes, or a value
 pub data Told : Type 0 where
@@ -58,9 +53,6 @@ tell (strip d o q bytes) = leaves (stripAfter bytes (lookupWords d o q))
 tell (value s) = reads (reading s)
 tell (told s) = answers (valueNumbers (reading s))
 tell (tree d v) = answers (trees.verdict d v)
-tell (path d v p n w) = answers (byPath d v p n w)
-tell (names p n w) = leaves (namesAfter (answer p n w) n)
-tell (steps p n w) = leaves (stepsAfter (answer p n w) w)
 
 -- D holds "flow" and "roll"
 abbrev pub D : List ℕ
@@ -103,38 +95,12 @@ roll = 0x72 ∷ 0x6F ∷ 0x6C ∷ 0x6C ∷ []
 abbrev pub run : List ℕ
 run = flow ++ rol ++ roll ++ 0x2E ∷ 0x2E ∷ []
 
--- "flow" is an object in which "roll" is `0C 07`; a list of `0C 01` and `0C 02`, and one of no bytes in the place of its second; and a path
-abbrev pub nested : List ℕ
-nested = 0x02 ∷ 0x01 ∷ 0x00 ∷ 0x00 ∷ 0x07 ∷ 0x02 ∷ 0x01 ∷ 0x01 ∷ 0x00 ∷ 0x02 ∷ 0x0C ∷ 0x07 ∷ []
-
-abbrev pub twoOf : List ℕ
-twoOf = 0x03 ∷ 0x02 ∷ 0x00 ∷ 0x02 ∷ 0x04 ∷ 0x0C ∷ 0x01 ∷ 0x0C ∷ 0x02 ∷ []
-
-abbrev pub oneAndNone : List ℕ
-oneAndNone = 0x03 ∷ 0x02 ∷ 0x00 ∷ 0x02 ∷ 0x02 ∷ 0x0C ∷ 0x01 ∷ []
-
--- `flow.roll`; and an index in brackets
-abbrev pub flowRoll : List ℕ
-flowRoll = flow ++ 0x2E ∷ roll
-
-abbrev pub index : ℕ → List ℕ
-index digit = 0x5B ∷ digit ∷ 0x5D ∷ []
-
--- room for eight bytes of names, and for three steps
-abbrev pub bytes : List ℕ
-bytes = replicate 8 7
-
-abbrev pub triples : List ℕ
-triples = replicate 9 9
-
 -- THE TABLE, with the ids and the strip of request c) and the 28 of request e); then request b)'s row, one for request c), where field and id
 -- differ, those of many names: their rows, a word that stays, an end that falls, one that passes the run, and a word too few; and those of
 -- request e): its second case, 28 of field 0 before 27 of field 1, and 27 of field 0 before 28 of field 1; and those of request f): a byte
 -- between two children that is in no span, and a child of type 21, said before the room that is short; and those of request g): minus five and
 -- its words, a float and its bits, those of two NaNs, two texts, and the refusals; and those of request h): P, no bytes, and each of its refusals,
--- outermost and inside, the 25 of an object in an object, a child of type 21 in a layer that is accepted, and 32 lists and 33;
--- and those of request i): found by one step and by two, with the buffers after it, absent and past the list, another kind at each step, no bytes to
--- step into, an inner layer's refusal, the empty path, 70 to 76, and 76 before a dictionary that is none
+-- outermost and inside, the 25 of an object in an object, a child of type 21 in a layer that is accepted, and 32 lists and 33
 abbrev pub starred : List (Asked × Told)
 starred =
     (verdict (0x01 ∷ 0x00 ∷ 0x00 ∷ []), answers (accept (0 ∷ 3 ∷ [])))
@@ -197,28 +163,4 @@ starred =
     ∷ (tree D unknown, answers (gives 51 (9 ∷ []) 0))
     ∷ (tree D (inside 32), answers (accept (0 ∷ 129 ∷ [])))
     ∷ (tree D (inside 33), answers (gives 52 (128 ∷ []) 0))
-    ∷ (path D P roll bytes triples, answers (accept (1 ∷ 1 ∷ 7 ∷ 10 ∷ [])))
-    ∷ (path D nested flow bytes triples, answers (accept (0 ∷ 0 ∷ 5 ∷ 12 ∷ [])))
-    ∷ (path D nested flowRoll bytes triples, answers (accept (0 ∷ 1 ∷ 10 ∷ 12 ∷ [])))
-    ∷ (names flowRoll (0xEE ∷ bytes) triples, leaves (flow ++ roll ++ 7 ∷ []))
-    ∷ (steps flowRoll bytes triples, leaves (0 ∷ 0 ∷ 4 ∷ 0 ∷ 4 ∷ 8 ∷ 9 ∷ 9 ∷ 9 ∷ []))
-    ∷ (path D twoOf (index 0x31) bytes triples, answers (accept (1 ∷ 0 ∷ 7 ∷ 9 ∷ [])))
-    ∷ (path D nested roll bytes triples, answers by-name.absent)
-    ∷ (path D twoOf (index 0x32) bytes triples, answers by-name.absent)
-    ∷ (path D P (index 0x30) bytes triples, answers (refuse 53 0))
-    ∷ (path D twoOf flow bytes triples, answers (refuse 53 0))
-    ∷ (path D P (flow ++ index 0x30) bytes triples, answers (refuse 53 1))
-    ∷ (path D oneAndNone (index 0x31) bytes triples, answers (accept (1 ∷ 0 ∷ 7 ∷ 7 ∷ [])))
-    ∷ (path D oneAndNone (index 0x31 ++ index 0x30) bytes triples, answers (refuse 21 0))
-    ∷ (path D (0x02 ∷ 0x01 ∷ 0x01 ∷ 0x00 ∷ 0x06 ∷ 0x02 ∷ 0x01 ∷ 0x02 ∷ 0x00 ∷ 0x01 ∷ 0x04 ∷ []) (roll ++ 0x2E ∷ flow) bytes triples, answers (refuse 25 0))
-    ∷ (path D [] [] [] [], answers (accept (0 ∷ 0 ∷ 0 ∷ 0 ∷ [])))
-    ∷ (path D P (0xFF ∷ []) bytes triples, answers (refuse 70 0))
-    ∷ (path D P (0x2E ∷ []) bytes triples, answers (refuse 71 0))
-    ∷ (path D P (flow ++ 0x2E ∷ []) bytes triples, answers (refuse 72 0))
-    ∷ (path D P (flow ++ 0x5D ∷ []) bytes triples, answers (refuse 73 0))
-    ∷ (path D P (0x5B ∷ []) bytes triples, answers (refuse 74 0))
-    ∷ (path D P (0x5B ∷ 0x5D ∷ []) bytes triples, answers (refuse 75 0))
-    ∷ (path D P flow (replicate 3 7) triples, answers (refuse 76 0))
-    ∷ (path [] P flow bytes (replicate 2 9), answers (refuse 76 0))
-    ∷ (path [] P flow bytes triples, answers (refuse 11 0))
     ∷ []
