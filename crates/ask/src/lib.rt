@@ -5,12 +5,16 @@ ghost use Prim.Native.Nat.{_≤_};
 ghost use lib.ListN.{length};
 ghost use Rattle.many.specs.Many.{rowsAfter};
 ghost use Rattle.listing.specs.Words.{wordsAfter};
-ghost use Rattle.strip.specs.Shapes.{stripBytes};
-ghost use Rattle.lichenhusk.specs.Strip.{lookupWords, allWords, layerWords, listWords, verdictWords, nameAtWords, valueWords, treeWords};
+ghost use Rattle.parsing.specs.Parsing.{answer, namesAfter, wordsAfter as stepsAfter};
+ghost use Rattle.strip.specs.Shapes.{stripBytes, bytesOfWords};
+ghost use Rattle.lichenhusk.specs.Strip.{lookupWords, allWords, layerWords, listWords, verdictWords, nameAtWords, valueWords, treeWords, pathWords};
 ghost use Rattle.host.specs.Host.{wordsIn};
 ghost use Rattle.ask.specs.Numbers.{numbersOf};
 use lichenhusk::STRIP;
 use print::say;
+
+// The words for the steps of any path of as many bytes as a program has room for: three a step, and a step for every two bytes.
+pub const STEPS: usize = 98_304;
 
 // The six numbers of a strip.
 pub struct Answer {
@@ -109,6 +113,17 @@ pub fn tree(dict: &[u8], value: &[u8]) -> Answer
     let mut none = [0u8; 0];
     let mut strip = [0u8; STRIP];
     lichenhusk::lichenhusk_tree(dict, value, &mut none, &mut strip);
+    read(&strip)
+}
+
+// By path. The six numbers are as 32 bits have them: a whole value that the empty path finds may be longer than they count.
+pub fn path(dict: &[u8], value: &[u8], path: &[u8], names: &mut [u8], words: &mut [u32]) -> Answer
+    ensures { λ r. ⌜ numbersOf r ≡ wordsIn (bytesOfWords (pathWords (now (dict .entry)) (now (value .entry)) (now (path .entry)) (now (names .entry)) (now (words .entry)))) ⌝ }
+    ensures { λ _. ⌜ now (names .exit) ≡ namesAfter (answer (now (path .entry)) (now (names .entry)) (now (words .entry))) (now (names .entry)) ⌝ }
+    ensures { λ _. ⌜ now (words .exit) ≡ stepsAfter (answer (now (path .entry)) (now (names .entry)) (now (words .entry))) (now (words .entry)) ⌝ }
+{
+    let mut strip = [0u8; STRIP];
+    lichenhusk::lichenhusk_path(dict, value, path, names, words, &mut strip);
     read(&strip)
 }
 

@@ -1,12 +1,15 @@
 // A question on a line, and its answer:
 //
 //     dictionary D     name D N     layer D O     lookup D O NAME     list D O ROOM     all D O RUN ROOM END ..     value V     tree D V
+//     path D V PATH
 //
-// D, O, NAME, RUN and V are bytes in hex, `-` for none; N is an entry's number, ROOM how many words the answer may fill. RUN is the names of
+// D, O, NAME, RUN, V and PATH are bytes in hex, `-` for none; N is an entry's number, ROOM how many words the answer may fill. RUN is the names of
 // a lookup of many, one after another, and after ROOM comes where each ends.
 ghost use Prim.Native.Nat.{_≤_};
 ghost use lib.ListN.{length};
 use ask::Answer;
+use ask::STEPS;
+use print::room::ROOM;
 use print::room::use_library;
 use print::tell;
 use print::write_words;
@@ -44,7 +47,7 @@ fn reason(n: usize, room: usize) -> bool {
         2 => tell(b"a character that is no hex digit"),
         3 => word_too_long(room),
         4 => tell(
-            b"the first word is none of dictionary, name, layer, lookup, list, all, value, tree",
+            b"the first word is none of dictionary, name, layer, lookup, list, all, value, tree, path",
         ),
         5 => tell(b"a word is missing"),
         6 => tell(b"a word too many"),
@@ -211,12 +214,26 @@ fn layer(text: &[u8], dict: &mut [u8], object: &mut [u8], whole: bool) -> Outcom
     Outcome::Answered(ask::layer(&dict[0..n], &object[0..m]))
 }
 
-fn lookup(text: &[u8], dict: &mut [u8], object: &mut [u8], name: &mut [u8]) -> Outcome {
+// By path, with room for the steps of the longest.
+fn walk(dict: &[u8], value: &[u8], path: &[u8]) -> Answer {
+    let mut names = [0u8; ROOM];
+    let mut words = [0u32; STEPS];
+    ask::path(dict, value, path, &mut names, &mut words)
+}
+
+// By name, or by path.
+fn lookup(
+    text: &[u8],
+    dict: &mut [u8],
+    object: &mut [u8],
+    query: &mut [u8],
+    by_path: bool,
+) -> Outcome {
     let b = both_at(text, dict, object);
     if b.fault != 0 {
         return Outcome::NoCase(b.fault);
     }
-    let q = bytes_at(text, b.next, name);
+    let q = bytes_at(text, b.next, query);
     let fault = last(text, q.next, q.fault);
     if fault != 0 {
         return Outcome::NoCase(fault);
@@ -224,7 +241,10 @@ fn lookup(text: &[u8], dict: &mut [u8], object: &mut [u8], name: &mut [u8]) -> O
     let n = b.dict;
     let m = b.object;
     let l = q.len;
-    Outcome::Answered(ask::lookup(&dict[0..n], &object[0..m], &name[0..l]))
+    if by_path {
+        return Outcome::Answered(walk(&dict[0..n], &object[0..m], &query[0..l]));
+    }
+    Outcome::Answered(ask::lookup(&dict[0..n], &object[0..m], &query[0..l]))
 }
 
 // How many of `room` words a listing of `fields` fills: three a field.
@@ -360,7 +380,7 @@ fn all(
     )
 }
 
-// 1 to 8, or 0 for a word that asks nothing.
+// 1 to 9, or 0 for a word that asks nothing.
 fn kind(verb: &[u8]) -> usize {
     if check::same(verb, b"dictionary") {
         return 1;
@@ -386,6 +406,9 @@ fn kind(verb: &[u8]) -> usize {
     if check::same(verb, b"tree") {
         return 8;
     }
+    if check::same(verb, b"path") {
+        return 9;
+    }
     0
 }
 
@@ -407,11 +430,12 @@ pub fn answer(
         1 => dictionary(rest, dict),
         2 => name(rest, dict),
         3 => layer(rest, dict, object, false),
-        4 => lookup(rest, dict, object, query),
+        4 => lookup(rest, dict, object, query, false),
         5 => list(rest, dict, object, words),
         6 => all(rest, dict, object, query, ends, words),
         7 => value(rest, object),
         8 => layer(rest, dict, object, true),
+        9 => lookup(rest, dict, object, query, true),
         _ => Outcome::NoCase(UNKNOWN),
     }
 }

@@ -40,6 +40,7 @@ fn usage() {
     tell(b"       variant check DICT [OBJECT]      are the bytes of these files accepted?\n");
     tell(b"       variant name DICT N              the name of entry N\n");
     tell(b"       variant find DICT OBJECT NAME..  the fields of these names\n");
+    tell(b"       variant get DICT VALUE PATH      what stands at a path such as site.meter[2]\n");
     tell(b"       variant list DICT OBJECT         all fields\n");
     tell(
         b"       variant tree DICT VALUE          is a value accepted, with all that is inside it?\n",
@@ -82,6 +83,7 @@ enum Wish {
     Check,
     List,
     Find,
+    Get,
     Tree,
 }
 
@@ -99,6 +101,7 @@ fn answer(wish: Wish, dict: &[u8], object: &[u8], names: &[u8], ends: &[u32]) {
         Wish::Check => described::check_object(dict, object),
         Wish::List => described::list(dict, object),
         Wish::Find => find_in(dict, object, names, ends),
+        Wish::Get => reached::get(dict, object, names),
         Wish::Tree => sentences::check_tree(dict, object),
     }
 }
@@ -128,7 +131,12 @@ pub fn find(path: &[u8], object_path: &[u8], names: &[u8], ends: &[u32]) {
     with_both(Wish::Find, path, object_path, names, ends);
 }
 
-// A command of `count` words, `variant` among them; the words that are not there are empty. That of names is `find`.
+// What stands at a path of steps, in two files.
+pub fn get(path: &[u8], value_path: &[u8], steps: &[u8]) {
+    with_both(Wish::Get, path, value_path, steps, &[0; 0]);
+}
+
+// A command of `count` words, `variant` among them; the words that are not there are empty. Those of more are `find` and `get`.
 pub fn act(count: usize, verb: &[u8], one: &[u8], two: &[u8]) {
     if count == 2 && check::same(verb, b"batch") {
         batch::run();
@@ -238,6 +246,16 @@ fn argument(i: usize, out: &mut [u8]) -> Word
     Word { good: true, len }
 }
 
+fn get_argument(path: &[u8], value_path: &[u8]) {
+    let mut room = [0u8; ROOM];
+    let steps = argument(4, &mut room);
+    if !steps.good {
+        return;
+    }
+    let n = steps.len;
+    get(path, value_path, &room[0..n]);
+}
+
 // The command of the first `count` of the program's arguments, its name among them. The first three words have room for the longest path.
 pub fn run_first(count: usize) {
     if count < 2 {
@@ -258,6 +276,8 @@ pub fn run_first(count: usize) {
     let b = two.len;
     if 5 <= count && check::same(&verb_room[0..v], b"find") {
         find_arguments(count, &one_room[0..a], &two_room[0..b]);
+    } else if count == 5 && check::same(&verb_room[0..v], b"get") {
+        get_argument(&one_room[0..a], &two_room[0..b]);
     } else {
         act(count, &verb_room[0..v], &one_room[0..a], &two_room[0..b]);
     }

@@ -2,8 +2,8 @@
 use print::say;
 use print::tell;
 
-// That one of the two is longer than any that the library reads.
-fn above_limit(what: &[u8]) -> bool {
+// That something is longer than any that the library reads.
+pub fn above_limit(what: &[u8]) -> bool {
     tell(what);
     say(b" is longer than ", dictionary::LIMIT);
     tell(b" bytes")
@@ -55,6 +55,21 @@ pub fn meaning_of_value(code: usize) -> bool {
     }
 }
 
+// Why a path is none.
+fn meaning_of_path(code: usize) -> bool {
+    match code {
+        70 => tell(b"the path is not UTF-8"),
+        71 => tell(b"the path starts with a dot"),
+        72 => tell(b"the path ends with a dot"),
+        73 => tell(b"the path has no name after a dot, or closes a bracket that is not open"),
+        74 => tell(b"the path has a bracket that is not closed"),
+        75 => tell(
+            b"the path has brackets around what is neither quoted nor a number below 18446744073709551616",
+        ),
+        _ => tell(b"the path has more steps or longer names than there is room for"),
+    }
+}
+
 // Where it is, for those that have a place.
 fn write_place(code: usize, place: usize) {
     match code {
@@ -65,23 +80,30 @@ fn write_place(code: usize, place: usize) {
         17 | 18 => say(b" at entry ", place),
         25..=28 | 43 => say(b" at field ", place),
         45 => say(b" at name ", place),
+        53 => say(b" at step ", place),
         62 => say(b" at element ", place),
         _ => {}
     }
 }
 
-fn meaning(code: usize) -> bool {
+pub fn meaning(code: usize) -> bool {
     match code {
         20..=28 | 41 | 43 | 45 => meaning_of_object(code),
         50..=62 => meaning_of_value(code),
+        70..=76 => meaning_of_path(code),
         _ => meaning_of_dictionary(code),
     }
 }
 
-pub fn why(code: usize, place: usize) {
+// What comes before the meaning.
+pub fn number(code: usize, place: usize) {
     say(b"refused ", code);
     write_place(code, place);
     tell(b": ");
+}
+
+pub fn why(code: usize, place: usize) {
+    number(code, place);
     meaning(code);
 }
 

@@ -68,7 +68,7 @@ fn run(text: &[u8]) -> Tally {
 }
 
 fn main() {
-    let mut text = [0u8; 262144];
+    let mut text = [0u8; 327_680];
     let n = tally::load(b"answers", &mut text);
     let t = run(&text[0..n]);
     print::say(b"", t.cases);

@@ -10,7 +10,6 @@ use reasons::refused;
 use reasons::why;
 use slices::part_of;
 use speak::counted;
-use speak::start_of;
 
 pub fn check_dictionary(dict: &[u8]) {
     let a = ask::dictionary(dict);
@@ -63,15 +62,7 @@ fn found(object: &[u8], a: Answer) {
         refused(a.code, a.place);
         return;
     }
-    say(b"found: field ", a.number);
-    say(b", entry ", a.id);
-    say(b" of the dictionary, its value from byte ", a.start);
-    say(b" to byte ", a.end);
-    tell(b":");
-    let value = part_of(object, a.start, a.end);
-    start_of(value);
-    speak::value(value);
-    tell(b"\n");
+    speak::field(object, a);
 }
 
 pub fn find(dict: &[u8], object: &[u8], name: &[u8]) {

@@ -29,8 +29,8 @@ pub fn start_of(s: &[u8]) {
     tell(b" ..");
 }
 
-// The two words of an answer's number: each has 32 bits.
-fn bits_of(low: usize, high: usize) -> usize {
+// The two words of a number: each has 32 bits.
+pub fn bits_of(low: usize, high: usize) -> usize {
     low % 0x1_0000_0000 + high % 0x1_0000_0000 * 0x1_0000_0000
 }
 
@@ -62,4 +62,27 @@ pub fn value(bytes: &[u8]) {
     say(b", refused ", a.code);
     tell(b": ");
     meaning_of_value(a.code);
+}
+
+// Where a value stands in the whole, its first bytes, and what it is read as.
+pub fn standing(whole: &[u8], start: usize, end: usize) {
+    say(b" from byte ", start);
+    say(b" to byte ", end);
+    if start == end {
+        tell(b", no bytes\n");
+        return;
+    }
+    tell(b":");
+    let bytes = part_of(whole, start, end);
+    start_of(bytes);
+    value(bytes);
+    tell(b"\n");
+}
+
+// A field that was found.
+pub fn field(whole: &[u8], a: Answer) {
+    say(b"found: field ", a.number);
+    say(b", entry ", a.id);
+    tell(b" of the dictionary, its value");
+    standing(whole, a.start, a.end);
 }

@@ -82,19 +82,33 @@ fn find_names(line: &[u8], from: usize, dict: &[u8], object: &[u8]) {
     command::find(dict, object, &run[0..n], &ends[0..k]);
 }
 
+// The path that a word spells; `''` is the empty one, as in a shell.
+fn get(dict: &[u8], value: &[u8], word: &[u8]) {
+    if check::same(word, b"''") {
+        command::get(dict, value, b"");
+    } else {
+        command::get(dict, value, word);
+    }
+}
+
 fn act(line: &[u8]) {
     let verb = word(line, 0);
     let one = word(line, verb.end);
     let two = word(line, one.end);
+    let three = word(line, two.end);
     let a = verb.start;
     let b = verb.end;
     let c = one.start;
     let d = one.end;
     let e = two.start;
     let f = two.end;
+    let g = three.start;
+    let h = three.end;
     let n = count(line);
     if 5 <= n && check::same(&line[a..b], b"find") {
         find_names(line, f, &line[c..d], &line[e..f]);
+    } else if n == 5 && check::same(&line[a..b], b"get") {
+        get(&line[c..d], &line[e..f], &line[g..h]);
     } else {
         command::act(n, &line[a..b], &line[c..d], &line[e..f]);
     }

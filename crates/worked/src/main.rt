@@ -1,10 +1,11 @@
 // Runs the worked cases that the tables of starred cases do not prove, and the vectors of the Rust's documentation, each against the
-// answer that is expected of it. Most are lines of data/cases, `name: question = answer`; the others are in special.rt, with their
-// answers. A line a case: its name, the answer, and whether it is as expected.
+// answer that is expected of it. Most are lines of data/cases, `name: question = answer`; the others are in special.rt and
+// paths.rt, with their answers. A line a case: its name, the answer, and whether it is as expected.
 //
 // The vectors of builder.rs and of variant.rs's objects are the bytes that the Rust's builder makes in those examples.
 use libc::STDOUT_FILENO;
 
+mod paths;
 mod report;
 mod special;
 
@@ -83,5 +84,5 @@ fn run(text: &[u8]) -> Tally {
 fn main() {
     let mut text = io::large_buffer();
     let n = tally::load(b"cases", &mut text);
-    report::close(special::run(run(&text[0..n])));
+    report::close(paths::run(special::run(run(&text[0..n]))));
 }
