@@ -66,27 +66,27 @@ module _ (v : List ℕ) where
     pub found : (a e : ℕ) → (element v n ≡ accept (n ∷ 0 ∷ a ∷ e ∷ [])) ↔ Found v n a e
     found a e = (
       by-answer (λ x. x ≡ accept (n ∷ 0 ∷ a ∷ e ∷ []) → Found v n a e)
-      (λ b f is w. let a-is : b ≡ a = cc in let e-is : f ≡ e = cc in rw (a-is, e-is) at is)
-      (λ _ w. let z : _≡_ {A = ℕ} 0 1 = cc in absurd (omega arith))
-      (λ c p _ w. let z : _≡_ {A = ℕ} 0 1 = cc in absurd (omega arith)),
+          (λ b f is w. let a-is : b ≡ a = cc in let e-is : f ≡ e = cc in rw (a-is, e-is) at is)
+          (λ _ w. let z : _≡_ {A = ℕ} 0 1 = cc in absurd (omega arith))
+          (λ c p _ w. let z : _≡_ {A = ℕ} 0 1 = cc in absurd (omega arith)),
       λ f. let l = f .accepted in
-      is-found v n _ (led (l .not-long) (l .not-empty) (l .is-list)) (list.all-pass (widths v) v (l .layer)) (f .is-element)
-      ∙ rw (← (f .starts), ← (f .ends)),
+          is-found v n _ (led (l .not-long) (l .not-empty) (l .is-list)) (list.all-pass (widths v) v (l .layer)) (f .is-element)
+          ∙ rw (← (f .starts), ← (f .ends)),
     )
 
     pub absent : (element v n ≡ gives 1 [] 0) ↔ Absent v n
     absent = (
       by-answer (λ x. x ≡ gives 1 [] 0 → Absent v n) (λ a e _ w. let z : _≡_ {A = ℕ} 0 1 = cc in absurd (omega arith)) (λ none w. none)
-      (λ c p r w. let z : c ≡ 1 = cc in absurd (omega (arith, refusal-code r))),
+          (λ c p r w. let z : c ≡ 1 = cc in absurd (omega (arith, refusal-code r))),
       λ a. let l = a .accepted in
-      is-absent v n _ (led (l .not-long) (l .not-empty) (l .is-list)) (list.all-pass (widths v) v (l .layer)) (a .past),
+          is-absent v n _ (led (l .not-long) (l .not-empty) (l .is-list)) (list.all-pass (widths v) v (l .layer)) (a .past),
     )
 
     pub refused : (c p : ℕ) → (c ≡ 1 → ⊥) → (element v n ≡ refuse c p) ↔ Refusal v c p
     refused c p other = (
       by-answer (λ x. x ≡ refuse c p → Refusal v c p) (λ a e _ w. let z : _≡_ {A = ℕ} 0 1 = cc in absurd (omega arith))
-      (λ _ w. let z : c ≡ 1 = cc in absurd (other z))
-      (λ b r due w. let c-is : b ≡ c = cc in let p-is : r ≡ p = cc in rw (c-is, p-is) at due),
+          (λ _ w. let z : c ≡ 1 = cc in absurd (other z))
+          (λ b r due w. let c-is : b ≡ c = cc in let p-is : r ≡ p = cc in rw (c-is, p-is) at due),
       λ r. is-refused v n (is-due r),
     )
 

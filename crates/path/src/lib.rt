@@ -30,7 +30,15 @@ fn walk(
     let mut end = value.len();
     let mut number = 0;
     while number < count {
-        let stride = strides::take(dict, h, &value[start..end], names, words, 3 * number, number);
+        let stride = strides::take(
+            dict,
+            h,
+            &value[start..end],
+            names,
+            words,
+            3 * number,
+            number,
+        );
         match stride {
             Stride::Refused(r) => {
                 return Stride::Refused(r);
@@ -70,13 +78,7 @@ fn ask(dict: &[u8], value: &[u8], names: &[u8], words: &[u32], count: usize) -> 
 }
 
 // What stands at the end of a path.
-pub fn get(
-    dict: &[u8],
-    value: &[u8],
-    path: &[u8],
-    names: &mut [u8],
-    words: &mut [u32],
-) -> Asked
+pub fn get(dict: &[u8], value: &[u8], path: &[u8], names: &mut [u8], words: &mut [u32]) -> Asked
     ensures { λ r. ⌜ GetPromise (now (dict .entry)) (now (value .entry)) (now (path .entry)) (now (names .entry)) (now (words .entry)) r (now (names .exit)) (now (words .exit)) ⌝ }
 {
     let reading = parsing::parse(path, names, words);

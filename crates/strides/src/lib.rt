@@ -56,13 +56,7 @@ fn of_list(r: elements::Refusal, number: usize) -> Refusal
 }
 
 // A name, in an object.
-fn by_name(
-    dict: &[u8],
-    h: dictionary::Header,
-    value: &[u8],
-    name: &[u8],
-    number: usize,
-) -> Stride
+fn by_name(dict: &[u8], h: dictionary::Header, value: &[u8], name: &[u8], number: usize) -> Stride
     requires { ⌜ Over (now dict) h ⌝ }
     ensures { λ r. ⌜ StrideOf (now (dict .entry)) (now (value .entry)) number (named (now (name .entry))) r ⌝ }
 {

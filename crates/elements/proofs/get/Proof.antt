@@ -15,9 +15,10 @@ get-spec =
     (λ c. sym (by-head _ _ (first-at 1 _ (omega arith))))  -- returns-2
     (λ c. search needs) (λ c κs. search needs) (λ c. search needs)
     (λ c κs. let call = c .before .before .before in
-    let says = list-says _ _ (sym (call .header-of .ensures .says) ∙ c .before .header .given .1) in
-    (rw (c .before .header .given .1) at (call .header-of .ensures .bounds),
-    record { not-long = call .before .before .before .if1 .left; not-empty = call .before .before .if2 .left; is-list = says .0; widths-are = says .1 }))  -- get-in-requires
+    let says = list-says _ _ (sym (call .header-of .ensures .says) ∙ c .before .header .given .1) in (
+      rw (c .before .header .given .1) at (call .header-of .ensures .bounds),
+      record { not-long = call .before .before .before .if1 .left; not-empty = call .before .before .if2 .left; is-list = says .0; widths-are = says .1 },
+    ))  -- get-in-requires
     (λ c. search needs) (λ c. search needs) (λ c. search needs)
     (λ c. search needs)  -- returns-3
     (λ c. let other = other-type 3 _ _ (c .before .before .header-of .ensures) (rw (c .enum-told .given .1) (λ e. omega arith)) in
