@@ -15,9 +15,14 @@ use Rattle.encoding.specs.declared.Header.the-variants as header
 use Rattle.nodes.specs.Tree as tree
 use Rattle.nodes.specs.Meaning.{headOf}
 use Rattle.tree.proofs.Appended as tree-appended
+use Rattle.steps.specs.Path.{Step}
+use Rattle.steps.specs.Path.Step.{named}
+use Rattle.steps.specs.Path.Parsed.{steps}
+use Rattle.parsing.specs.Parsing.{answer}
+use Rattle.path.proofs.Appended.{path-appended}
 use Rattle.strip.specs.Shapes.{Shape, wordsOf, lookupShape, layerShape, dictionaryShape, nameShape, treeShape, stripBytes}
 use Rattle.lichenhusk.specs.Strip.{returned, stripAfter, filledAfter}
-use Rattle.lichenhusk.specs.Promises.{Left, Filled, DictionaryPromise, NamePromise, LayerPromise, LookupPromise, ListPromise, AllPromise, TreePromise}
+use Rattle.lichenhusk.specs.Promises.{Left, Filled, DictionaryPromise, NamePromise, LayerPromise, LookupPromise, ListPromise, AllPromise, TreePromise, PathPromise}
 use Rattle.host.specs.Host.{word}
 use Rattle.host.proofs.Carries.{first-is, carried}
 use Rattle.host.proofs.Trees.{tree-said}
@@ -94,3 +99,15 @@ module _ (d t v u marks strip : List ℕ) {w : Widths} (is : headOf v ≡ header
       go n q e c (no h) =
           let words = carried treeShape (tree.verdict d v) (p .strip-left) (omega arith) (tree-said d v .0) in
           let start : word after 3 ≡ 0 = ap (λ l. getD l 3 0) words ∙ rw e in rw c at (settled start)
+
+-- A PATH whose first step is a name, into the outermost object
+module _ (d t v u path names words strip q : List ℕ) (xs : List Step) (is : answer path names words ≡ steps (named q ∷ xs))
+    (fits : length (d ++ t) ≤ limit) (value-fits : length (v ++ u) ≤ limit) where
+  pub path-kept : {code : ℕ} {after names′ words′ : List ℕ} → Settled code → PathPromise d v path names words strip code after names′ words′
+      → PathPromise (d ++ t) (v ++ u) path names words strip code after names′ words′
+  path-kept settled p =
+      record {
+        strip-left = keeps lookupShape strip _ _ (λ c. path-appended d t v u fits value-fits path names words q xs is (rw c at settled)) (p .strip-left);
+        names-left = p .names-left;
+        words-left = p .words-left;
+      }
