@@ -1,12 +1,12 @@
 // The library's calls as programs make them: each asks through the strip, as a host does, and takes the six numbers out of it. What writes
 // to standard output promises safety only.
 ghost use mathlib.Core.Path.{_≡_};
-ghost use Prim.Native.Nat.{_≤_};
+ghost use Prim.Native.Nat.{_≤_, _<_};
 ghost use lib.ListN.{length};
 ghost use Rattle.many.specs.Many.{rowsAfter};
 ghost use Rattle.listing.specs.Words.{wordsAfter};
 ghost use Rattle.parsing.specs.Parsing.{answer, namesAfter, wordsAfter as stepsAfter};
-ghost use Rattle.strip.specs.Shapes.{stripBytes, bytesOfWords};
+ghost use Rattle.strip.specs.Shapes.{stripBytes};
 ghost use Rattle.lichenhusk.specs.Strip.{lookupWords, allWords, layerWords, listWords, verdictWords, nameAtWords, valueWords, treeWords, pathWords};
 ghost use Rattle.host.specs.Host.{wordsIn};
 ghost use Rattle.ask.specs.Numbers.{numbersOf};
@@ -116,9 +116,9 @@ pub fn tree(dict: &[u8], value: &[u8]) -> Answer
     read(&strip)
 }
 
-// By path. The six numbers are as 32 bits have them: a whole value that the empty path finds may be longer than they count.
+// By path. The six words are whole for a value and as many words as 32 bits can number: the empty path finds the whole, and the place of 53 is a step.
 pub fn path(dict: &[u8], value: &[u8], path: &[u8], names: &mut [u8], words: &mut [u32]) -> Answer
-    ensures { λ r. ⌜ numbersOf r ≡ wordsIn (bytesOfWords (pathWords (now (dict .entry)) (now (value .entry)) (now (path .entry)) (now (names .entry)) (now (words .entry)))) ⌝ }
+    ensures { λ r. ⌜ (length (now (value .entry)) < 4294967296 → length (now (words .entry)) ≤ 4294967296 → numbersOf r ≡ pathWords (now (dict .entry)) (now (value .entry)) (now (path .entry)) (now (names .entry)) (now (words .entry))) ⌝ }
     ensures { λ _. ⌜ now (names .exit) ≡ namesAfter (answer (now (path .entry)) (now (names .entry)) (now (words .entry))) (now (names .entry)) ⌝ }
     ensures { λ _. ⌜ now (words .exit) ≡ stepsAfter (answer (now (path .entry)) (now (names .entry)) (now (words .entry))) (now (words .entry)) ⌝ }
 {

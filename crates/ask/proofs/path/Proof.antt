@@ -1,15 +1,17 @@
--- `ask::path` meets its contract: the six numbers are the words of the strip, and both buffers are as the call leaves them. Assumes nothing.
-use mathlib.Core.List.{append-nil}
-use mathlib.Core.Path.{_∙_, ap}
+-- `ask::path` meets its contract: the strip carries the six numbers whole, and both buffers are as the call leaves them. Assumes nothing.
+use mathlib.Core.Path.{_∙_}
+use native.Mathlib.Omega.{arith}
 use borrow.Author.Needs.{needs}
-use Rattle.strip.specs.Shapes.{bytesOfWords}
-use Rattle.lichenhusk.specs.Strip.{filledAfter, stripAfter, pathWords}
-use Rattle.host.specs.Host.{wordsIn}
+use Rattle.path.specs.Path.{byPath}
+use Rattle.strip.specs.Shapes.{lookupShape}
+use Rattle.lichenhusk.specs.Strip.{filledAfter}
+use Rattle.host.proofs.Carries.{carried}
+use Rattle.host.proofs.Paths.{path-said}
 use Rattle.ask.proofs.path.Statement.{statement}
 use Rattle.ask.proofs.path.Tie as tie
 
 pub path-spec : {M : Type 1} → statement M
-unfolding filledAfter stripAfter
+unfolding filledAfter
 path-spec =
     tie.close
     (tie.spec
@@ -17,5 +19,8 @@ path-spec =
     (λ c. let call = c .before .before .before .before .before .before .before in
     let a = call .before .before .before .before .before .before .before .before .before .args in
     let told = call .lichenhusk-path .ensures in
-    let bytes = bytesOfWords (pathWords (a .dict .now) (a .value .now) (a .path .now) (a .names .now) (a .words .now)) in
-    (c .read .ensures ∙ ap wordsIn (told .strip-left .leaves ∙ append-nil bytes), (told .names-left, told .words-left))))  -- returns
+    let answer = byPath (a .dict .now) (a .value .now) (a .path .now) (a .names .now) (a .words .now) in (
+      λ short few. let fits = path-said (a .dict .now) (a .value .now) (a .path .now) (a .names .now) (a .words .now) short few .0 in
+          c .read .ensures ∙ carried lookupShape answer (told .strip-left) (omega arith) fits,
+      (told .names-left, told .words-left),
+    )))  -- returns
