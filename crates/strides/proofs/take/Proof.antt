@@ -15,7 +15,8 @@ take-spec =
     (λ c. omega (arith, c .shared-slice-known6 .given (c .before .before .before .before .before .before .args .row + 2)))  -- cast-b
     (λ c. search needs) (λ c. omega (arith, c .before .before .before .before .before .before .before .pre .1 .room))
     (λ c. omega (arith, c .before .before .before .before .before .before .before .before .pre .1 .rises (c .if1 .taken)))  -- sub-by-name
-    (λ c. let stands = c .before .before .before .before .before .before .before .before .pre .1 in omega (arith, stands .rises (c .if1 .taken), stands .inside (c .if1 .taken)))  -- part-by-name-start
+    (λ c. let stands = c .before .before .before .before .before .before .before .before .pre .1 in
+    omega (arith, stands .rises (c .if1 .taken), stands .inside (c .if1 .taken)))  -- part-by-name-start
     (λ c. omega (arith, c .before .before .before .before .before .before .before .before .pre .1 .inside (c .if1 .taken)))  -- part-by-name-end
     (λ c κs. search needs)
     (λ c. rw (c .before .before .if1 .taken) (c .by-name .ensures))  -- returns
