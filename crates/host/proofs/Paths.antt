@@ -18,7 +18,7 @@ use Rattle.elements.specs.Meaning.Refusal.{too-long, empty, no-list, layer}
 use Rattle.elements.proofs.Means as elements
 use Rattle.steps.specs.Path.{Step}
 use Rattle.steps.specs.Meaning as path
-use Rattle.writing.specs.Written.{counted, total, namesOf, wordsOf}
+use Rattle.writing.specs.Written.{total, namesOf, wordsOf}
 use Rattle.writing.proofs.Laws.{names-length, words-length}
 use Rattle.parsing.specs.Parsing.{answer, namesAfter, wordsAfter}
 use Rattle.parsing.specs.Meaning as parsing
@@ -65,8 +65,8 @@ module _ (d v : List ℕ) (short : length v < 4294967296) where
     rises : at .start ≤ at .end
     inside : at .end ≤ length v
 
-  ends-fit : {n : ℕ} {at : Spot} {xs : List Step} {r : Answer} → n + counted xs < 4294967296 → Small at → Ends d v n at xs r → Walked r
-  unfolding counted u32Max
+  ends-fit : {n : ℕ} {at : Spot} {xs : List Step} {r : Answer} → n + length xs < 4294967296 → Small at → Ends d v n at xs r → Walked r
+  unfolding u32Max
   ends-fit few small arrived = ((omega arith), omega arith, λ z. omega arith)
   ends-fit few small (by-name {k = k} {a = a} {e = e} {at = at} {q = q} f more) =
       let s = handed v at in
@@ -147,7 +147,7 @@ module _ (d v path names words : List ℕ) (short : length v < 4294967296) (few 
           accepted = a;
           stand = rw (p, q) (laid path names words xs is);
           names-rest = rw (p, is) (drop-at (namesOf xs) (drop (total xs) names) (total xs) (names-length xs));
-          words-rest = rw (q, is) (drop-at (wordsOf 0 xs) (drop (3 * counted xs) words) (3 * counted xs) (words-length 0 xs));
+          words-rest = rw (q, is) (drop-at (wordsOf 0 xs) (drop (3 * length xs) words) (3 * length xs) (words-length 0 xs));
         }
 
     by-case : {r : Answer} → Says d v path names words r → code ≡ codeOf r → names′ ≡ namesAfter (answer path names words) names

@@ -35,6 +35,6 @@ unfolding le upTo leadOf tailsOf char textUpTo begins isCut compareOf below same
     layout.count layout.offsetsStart layout.offset layout.start layout.end encoding.countWidth encoding.listWidths list.elementRules list.checks
     elements.checks elements.element stride path.walk path.asked path.byPath
     steps.plain steps.bracket steps.dotted steps.next steps.parse parsing.leadingDot parsing.stepsOf parsing.answer
-    written.weight written.namesOf written.wordsOf written.counted written.total
+    written.weight written.namesOf written.wordsOf written.total
     brackets.closes brackets.content brackets.firstOr brackets.lastOr brackets.digits brackets.unsigned brackets.someDigits brackets.number
 worked = refl

@@ -31,7 +31,7 @@ use Rattle.value.specs.Meaning.{Begins, OfType, Placed, Reads}
 use Rattle.nodes.specs.Meaning as tree
 use Rattle.marks.specs.Marks.{cleared}
 use Rattle.steps.specs.Path.{Step}
-use Rattle.writing.specs.Written.{counted, total}
+use Rattle.writing.specs.Written.{total}
 use Rattle.parsing.specs.Meaning as parsing
 use Rattle.parsing.specs.ReadBack.{Laid}
 use Rattle.path.specs.Meaning.{Says}
@@ -142,7 +142,7 @@ pub record Steps (path names words names′ words′ : List ℕ) : Type 0 where
   pub accepted : parsing.Accepted path names words all
   pub stand : Laid names′ words′ 0 all
   pub names-rest : drop (total all) names′ ≡ drop (total all) names
-  pub words-rest : drop (3 * counted all) words′ ≡ drop (3 * counted all) words
+  pub words-rest : drop (3 * length all) words′ ≡ drop (3 * length all) words
 
 pub record FillsSteps (path names words : List ℕ) (code : ℕ) (names′ words′ : List ℕ) : Type 0 where
   pub no-strip : code ≡ 40 → (names′ ≡ names) × (words′ ≡ words)

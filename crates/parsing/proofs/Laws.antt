@@ -2,7 +2,7 @@
 use Rattle.rules.proofs.Prelude.{_≡_, refl, sym, ap, ap₂, _∙_, Bool, true, false, _||_, List, [], _∷_, _++_, ℕ, _+_, _*_, _≤_, _<_, arith, length, drop}
 use Rattle.rules.proofs.Prelude.{getD, sets, sets-eq, lt-ltb, le-ltb, ltb-true, ltb-false, eqb, ltb}
 use Rattle.steps.specs.Path.{Step, Parsed, parse}
-use Rattle.writing.specs.Written.{Fits, namesOf, wordsOf, counted, total, sizes}
+use Rattle.writing.specs.Written.{Fits, namesOf, wordsOf, total, sizes}
 use Rattle.parsing.specs.Parsing.{leadingDot, stepsOf, lacking, answer}
 use Rattle.writing.specs.Written.Sizes.{bad, of}
 use Rattle.part.specs.Part.{part}
@@ -27,7 +27,7 @@ pub is-bad : (p : Parsed) (code : ℕ) → bad code ≡ sizes p → p ≡ refuse
 is-bad (refused d) code e = let z : code ≡ d = cc in ap refused (sym z)
 is-bad (steps xs) code e = let z : _≡_ {A = ℕ} 0 1 = cc in absurd (omega arith)
 
-pub is-of : (p : Parsed) (count sum : ℕ) → of count sum ≡ sizes p → (p ≡ steps (stepsIn p)) × (count ≡ counted (stepsIn p)) × (sum ≡ total (stepsIn p))
+pub is-of : (p : Parsed) (count sum : ℕ) → of count sum ≡ sizes p → (p ≡ steps (stepsIn p)) × (count ≡ length (stepsIn p)) × (sum ≡ total (stepsIn p))
 is-of (refused d) count sum e = let z : _≡_ {A = ℕ} 0 1 = cc in absurd (omega arith)
 is-of (steps xs) count sum e = (refl, cc, cc)
 
@@ -47,11 +47,11 @@ Roomy names words xs true = Lacks names words xs
 Roomy names words xs false = Fits names words xs
 
 module _ (names words : List ℕ) (xs : List Step) where
-  pub roomy : Roomy names words xs (lacking (length names) (length words) (counted xs) (total xs))
+  pub roomy : Roomy names words xs (lacking (length names) (length words) (length xs) (total xs))
   unfolding Roomy
-  roomy = go (ltb (length words) (3 * counted xs)) refl (ltb (length names) (total xs)) refl (ltb u32Max (total xs)) refl
+  roomy = go (ltb (length words) (3 * length xs)) refl (ltb (length names) (total xs)) refl (ltb u32Max (total xs)) refl
     where
-      go : (u : Bool) → ltb (length words) (3 * counted xs) ≡ u → (v : Bool) → ltb (length names) (total xs) ≡ v
+      go : (u : Bool) → ltb (length words) (3 * length xs) ≡ u → (v : Bool) → ltb (length names) (total xs) ≡ v
           → (w : Bool) → ltb u32Max (total xs) ≡ w → Roomy names words xs (u || (v || w))
       go true e v f w g = few-words (ltb-true _ _ e)
       go false e true f w g = few-bytes (ltb-true _ _ f)
@@ -63,21 +63,21 @@ module _ (names words : List ℕ) (xs : List Step) where
   no-lack (few-bytes l) f = omega (arith, f .bytes)
   no-lack (past-range l) f = omega (arith, f .range)
 
-  pub lacking-so : Lacks names words xs → lacking (length names) (length words) (counted xs) (total xs) ≡ true
+  pub lacking-so : Lacks names words xs → lacking (length names) (length words) (length xs) (total xs) ≡ true
   unfolding Roomy
-  lacking-so l = go (lacking (length names) (length words) (counted xs) (total xs)) refl roomy
+  lacking-so l = go (lacking (length names) (length words) (length xs) (total xs)) refl roomy
     where
-      go : (u : Bool) → lacking (length names) (length words) (counted xs) (total xs) ≡ u → Roomy names words xs u
-          → lacking (length names) (length words) (counted xs) (total xs) ≡ true
+      go : (u : Bool) → lacking (length names) (length words) (length xs) (total xs) ≡ u → Roomy names words xs u
+          → lacking (length names) (length words) (length xs) (total xs) ≡ true
       go true e r = e
       go false e r = absurd (no-lack l r)
 
-  pub fits-so : Fits names words xs → lacking (length names) (length words) (counted xs) (total xs) ≡ false
+  pub fits-so : Fits names words xs → lacking (length names) (length words) (length xs) (total xs) ≡ false
   unfolding Roomy
-  fits-so f = go (lacking (length names) (length words) (counted xs) (total xs)) refl roomy
+  fits-so f = go (lacking (length names) (length words) (length xs) (total xs)) refl roomy
     where
-      go : (u : Bool) → lacking (length names) (length words) (counted xs) (total xs) ≡ u → Roomy names words xs u
-          → lacking (length names) (length words) (counted xs) (total xs) ≡ false
+      go : (u : Bool) → lacking (length names) (length words) (length xs) (total xs) ≡ u → Roomy names words xs u
+          → lacking (length names) (length words) (length xs) (total xs) ≡ false
       go true e r = absurd (no-lack r f)
       go false e r = e
 
@@ -124,7 +124,7 @@ module _ (s names words : List ℕ) where
   room-for count sum f g =
       let (is, k, t) = is-of (parse 0 s) count sum f in
       let xs = stepsIn (parse 0 s) in
-      let none : lacking (length names) (length words) (counted xs) (total xs) ≡ false = rw (← k, ← t) g in
+      let none : lacking (length names) (length words) (length xs) (total xs) ≡ false = rw (← k, ← t) g in
       record { all = xs; is = is; room = rw none at (roomy names words xs) }
 
   -- what the writer leaves is the steps and then the rest
@@ -137,13 +137,13 @@ module _ (s names words : List ℕ) where
       let h : 0 + length (namesOf xs) ≤ length names = omega (arith, n, r .room .bytes, ap total x) in
       sets-eq (namesOf xs) names 0 h ∙ ap (λ (j : ℕ). namesOf xs ++ drop j names) k
 
-  pub words-written : Room s names words → sets words 0 (wordsOf 0 (stepsIn (parse 0 s))) ≡ wordsOf 0 (stepsIn (parse 0 s)) ++ drop (3 * counted (stepsIn (parse 0 s))) words
+  pub words-written : Room s names words → sets words 0 (wordsOf 0 (stepsIn (parse 0 s))) ≡ wordsOf 0 (stepsIn (parse 0 s)) ++ drop (3 * length (stepsIn (parse 0 s))) words
   words-written r =
       let xs = stepsIn (parse 0 s) in
       let x : xs ≡ r .all = ap stepsIn (r .is) in
-      let n : length (wordsOf 0 xs) ≡ 3 * counted xs = words-length 0 xs in
-      let k : 0 + length (wordsOf 0 xs) ≡ 3 * counted xs = omega (arith, n) in
-      let h : 0 + length (wordsOf 0 xs) ≤ length words = omega (arith, n, r .room .rows, ap counted x) in
+      let n : length (wordsOf 0 xs) ≡ 3 * length xs = words-length 0 xs in
+      let k : 0 + length (wordsOf 0 xs) ≡ 3 * length xs = omega (arith, n) in
+      let h : 0 + length (wordsOf 0 xs) ≤ length words = omega (arith, n, r .room .rows, ap length x) in
       sets-eq (wordsOf 0 xs) words 0 h ∙ ap (λ (j : ℕ). wordsOf 0 xs ++ drop j words) k
 
 -- THE PROMISE: a refusal leaves both buffers; the steps are written
@@ -155,5 +155,5 @@ pub written-so : (s names words names′ words′ : List ℕ) (count sum : ℕ) 
     → words′ ≡ sets words 0 (wordsOf 0 (stepsIn (parse 0 s))) → ParsePromise s names words (reading.Parsed count sum) names′ words′
 written-so s names words names′ words′ count sum r f e p q =
     let o = is-of (parse 0 s) count sum f in
-    let z : of count sum ≡ of (counted (stepsIn (parse 0 s))) (total (stepsIn (parse 0 s))) = ap₂ of (o .1) (o .2) in
+    let z : of count sum ≡ of (length (stepsIn (parse 0 s))) (total (stepsIn (parse 0 s))) = ap₂ of (o .1) (o .2) in
     record { says = rw e z; names-left = rw e (p ∙ names-written s names words r); words-left = rw e (q ∙ words-written s names words r) }

@@ -8,7 +8,7 @@ use Rattle.chars.proofs.Laws.{text-whole, text-all}
 use Rattle.steps.specs.Path.{Step, Parsed, parse}
 use Rattle.steps.specs.Path.Parsed.{refused, steps}
 use Rattle.steps.proofs.Means.{spells, refuses as met-refuses}
-use Rattle.writing.specs.Written.{counted, total, sizes}
+use Rattle.writing.specs.Written.{total, sizes}
 use Rattle.writing.specs.Steps.{stepsIn}
 use Rattle.parsing.specs.Parsing.{leadingDot, stepsOf, lacking, roomFor, answer}
 use Rattle.parsing.specs.declared.Refusal as declared
@@ -41,7 +41,7 @@ module _ (path names words : List ℕ) where
   means-room : Text path → (LeadsWithDot path → ⊥) → (p : Parsed) → parse 0 path ≡ p → Means (roomFor names words p)
   unfolding Means Roomy
   means-room t n (refused c) e = met t n (met-refuses path c .0 e)
-  means-room t n (steps xs) e = go (lacking (length names) (length words) (counted xs) (total xs)) (roomy names words xs)
+  means-room t n (steps xs) e = go (lacking (length names) (length words) (length xs) (total xs)) (roomy names words xs)
     where
       go : (u : Bool) → Roomy names words xs u → Means (cond u (refused 76) (steps xs))
       go true r = no-room t n (spells path xs .0 e) r
@@ -69,7 +69,7 @@ module _ (path names words : List ℕ) where
   accepted-so : {xs : List Step} → Accepted path names words xs → answer path names words ≡ steps xs
   accepted-so {xs = xs} a =
       let e = spells path xs .1 (a .spelt) in
-      answer-good path names words (a .is-text) (no-dot-so (a .no-dot)) (counted xs) (total xs) (sym (ap sizes e)) (fits-so names words xs (a .room))
+      answer-good path names words (a .is-text) (no-dot-so (a .no-dot)) (length xs) (total xs) (sym (ap sizes e)) (fits-so names words xs (a .room))
       ∙ ap (λ (p : Parsed). steps (stepsIn p)) e
 
   is-due : {c : ℕ} → Refusal path names words c → answer path names words ≡ refused c
@@ -77,7 +77,7 @@ module _ (path names words : List ℕ) where
   is-due (leading-dot t d) = answer-dot path names words t (dot-so d)
   is-due (met {c = c} t n m) = answer-wrong path names words t (no-dot-so n) c (sym (ap sizes (met-refuses path c .1 m)))
   is-due (no-room {xs = xs} t n s l) =
-      answer-room path names words t (no-dot-so n) (counted xs) (total xs) (sym (ap sizes (spells path xs .1 s))) (lacking-so names words xs l)
+      answer-room path names words t (no-dot-so n) (length xs) (total xs) (sym (ap sizes (spells path xs .1 s))) (lacking-so names words xs l)
 
   -- THE THEOREMS
   pub accepts : (xs : List Step) → (answer path names words ≡ steps xs) ↔ Accepted path names words xs
@@ -92,7 +92,7 @@ module _ (path names words : List ℕ) where
 pub record Read (path names words : List ℕ) (count sum : ℕ) (names′ words′ : List ℕ) : Type 0 where
   pub all : List Step
   pub accepted : Accepted path names words all
-  pub count-is : count ≡ counted all
+  pub count-is : count ≡ length all
   pub total-is : sum ≡ total all
   pub stand : Laid names′ words′ 0 all
   pub back : readBack names′ words′ 0 count ≡ all

@@ -1,12 +1,12 @@
 -- What is written is the steps: they stand in the two buffers row by row, and are read back exactly. Assumes nothing.
-use Rattle.rules.proofs.Prelude.{_≡_, refl, sym, ap, ap₂, List, [], _∷_, _++_, append-assoc, ℕ, suc, _+_, _-_, _*_, arith, length, length-append, drop}
+use Rattle.rules.proofs.Prelude.{_≡_, refl, sym, ap, ap₂, List, [], _∷_, _++_, append-assoc, ℕ, _+_, _-_, _*_, arith, length, length-append, drop}
 use Rattle.rules.proofs.Prelude.{getD, getD-append-add}
 use lib.Seq.{take-append-seam, drop-append-seam, getD-append-seam}
 use Rattle.part.specs.Part.{part}
 use Rattle.steps.specs.Path.{Step}
 use Rattle.steps.specs.Path.Step.{named, indexed}
 use Rattle.steps.specs.Path.Parsed.{steps}
-use Rattle.writing.specs.Written.{textOf, weight, rowOf, namesOf, wordsOf, counted, total}
+use Rattle.writing.specs.Written.{textOf, weight, rowOf, namesOf, wordsOf, total}
 use Rattle.writing.proofs.Laws.{row-length}
 use Rattle.parsing.specs.Parsing.{answer, namesAfter, wordsAfter}
 use Rattle.parsing.specs.ReadBack.{readBack, StandsAt, Laid}
@@ -67,17 +67,16 @@ lay (x ∷ xs) p q u v =
 -- THE STEPS STAND in the two buffers after an accepted path, three words each, from the first word on
 pub laid : (s names words : List ℕ) (xs : List Step) → answer s names words ≡ steps xs
     → Laid (namesAfter (answer s names words) names) (wordsAfter (answer s names words) words) 0 xs
-laid s names words xs e = rw e (lay xs [] [] (drop (total xs) names) (drop (3 * counted xs) words))
+laid s names words xs e = rw e (lay xs [] [] (drop (total xs) names) (drop (3 * length xs) words))
 
 -- what is laid from `row` on is read back
-pub read-laid : (names words : List ℕ) (row : ℕ) (xs : List Step) → Laid names words row xs → readBack names words row (counted xs) ≡ xs
-unfolding readBack counted
+pub read-laid : (names words : List ℕ) (row : ℕ) (xs : List Step) → Laid names words row xs → readBack names words row (length xs) ≡ xs
+unfolding readBack
 read-laid names words row [] l = refl
 read-laid names words row (x ∷ xs) (h, l) =
-    let n : 1 + counted xs ≡ suc (counted xs) = omega arith in
-    rw n (ap₂ _∷_ (sym (h .is)) (read-laid names words (row + 3) xs l))
+    ap₂ _∷_ (sym (h .is)) (read-laid names words (row + 3) xs l)
 
 -- AND ARE READ BACK exactly
 pub read-back : (s names words : List ℕ) (xs : List Step) → answer s names words ≡ steps xs
-    → readBack (namesAfter (answer s names words) names) (wordsAfter (answer s names words) words) 0 (counted xs) ≡ xs
+    → readBack (namesAfter (answer s names words) names) (wordsAfter (answer s names words) words) 0 (length xs) ≡ xs
 read-back s names words xs e = read-laid _ _ 0 xs (laid s names words xs e)

@@ -6,7 +6,7 @@ use Rattle.leads.specs.Table.{leadOf}
 use Rattle.chars.specs.Rfc3629.{tailsOf, char, textUpTo}
 use Rattle.brackets.specs.Brackets as brackets
 use Rattle.steps.specs.Path.{Parsed, plain, bracket, dotted, next, parse}
-use Rattle.writing.specs.Written.{weight, namesOf, wordsOf, counted, total, sizes}
+use Rattle.writing.specs.Written.{weight, namesOf, wordsOf, total, sizes}
 use Rattle.parsing.specs.Parsing.{leadingDot, stepsOf, answer, namesAfter, wordsAfter}
 use Rattle.parsing.specs.Worked.{paths, Asked, Left, calls}
 
@@ -22,6 +22,6 @@ after a =
     record { says = sizes p; names = namesAfter p (a .names); words = wordsAfter p (a .words) }
 
 pub called : map (λ (c : Asked × Left). after (c .0)) calls ≡ map (λ (c : Asked × Left). c .1) calls
-unfolding upTo leadOf tailsOf char textUpTo plain bracket dotted next parse leadingDot stepsOf after answer u32Max weight namesOf wordsOf counted total
+unfolding upTo leadOf tailsOf char textUpTo plain bracket dotted next parse leadingDot stepsOf after answer u32Max weight namesOf wordsOf total
     brackets.closes brackets.content brackets.firstOr brackets.lastOr brackets.digits brackets.unsigned brackets.someDigits brackets.number
 called = refl

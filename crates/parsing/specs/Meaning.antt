@@ -7,14 +7,14 @@ use Rattle.width.specs.Limits.{u32Max}
 use Rattle.chars.specs.Rfc3629.{Text}
 use Rattle.steps.specs.Path.{Step}
 use Rattle.steps.specs.Meaning.{Spells, Refused}
-use Rattle.writing.specs.Written.{counted, total, Fits}
+use Rattle.writing.specs.Written.{total, Fits}
 
 pub data LeadsWithDot : List ℕ → Type 0 where
   dot : {s : List ℕ} → LeadsWithDot (46 ∷ s)
 
 -- NO ROOM for the steps: too few words, or bytes, or a total above the u32 range
 pub data Lacks (names words : List ℕ) (xs : List Step) : Type 0 where
-  few-words : length words < 3 * counted xs → Lacks names words xs
+  few-words : length words < 3 * length xs → Lacks names words xs
   few-bytes : length names < total xs → Lacks names words xs
   past-range : u32Max < total xs → Lacks names words xs
 

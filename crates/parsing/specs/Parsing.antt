@@ -7,7 +7,7 @@ use lib.ListN.{length, drop}
 use Rattle.width.specs.Limits.{u32Max}
 use Rattle.chars.specs.Rfc3629.{textUpTo}
 use Rattle.steps.specs.Path.{Parsed, parse}
-use Rattle.writing.specs.Written.{namesOf, wordsOf, counted, total}
+use Rattle.writing.specs.Written.{namesOf, wordsOf, total}
 use Rattle.steps.specs.Path.Parsed.{refused, steps}
 
 -- 70 and 71 come first
@@ -24,7 +24,7 @@ lacking names words count total = ltb words (3 * count) || (ltb names total || l
 
 abbrev pub roomFor : List ℕ → List ℕ → Parsed → Parsed
 roomFor names words (refused code) = refused code
-roomFor names words (steps xs) = cond (lacking (length names) (length words) (counted xs) (total xs)) (refused 76) (steps xs)
+roomFor names words (steps xs) = cond (lacking (length names) (length words) (length xs) (total xs)) (refused 76) (steps xs)
 
 unfoldable pub answer : (path names words : List ℕ) → Parsed
 answer path names words = roomFor names words (stepsOf path)
@@ -36,4 +36,4 @@ namesAfter (steps xs) names = namesOf xs ++ drop (total xs) names
 
 abbrev pub wordsAfter : Parsed → List ℕ → List ℕ
 wordsAfter (refused code) words = words
-wordsAfter (steps xs) words = wordsOf 0 xs ++ drop (3 * counted xs) words
+wordsAfter (steps xs) words = wordsOf 0 xs ++ drop (3 * length xs) words

@@ -11,7 +11,6 @@ use Rattle.layer.proofs.Laws.{by-dictionary}
 use Rattle.lookup.specs.ByName.{lookupWithin}
 use Rattle.steps.specs.Path.{Step}
 use Rattle.steps.specs.Path.Step.{named, indexed}
-use Rattle.writing.specs.Written.{counted}
 use Rattle.strides.specs.declared.Spot.{Spot}
 use Rattle.strides.specs.Stride.{single, asStep, stride}
 use Rattle.strides.proofs.Answers.{by-single}
@@ -55,27 +54,27 @@ module _ (d v : List ℕ) where
 
   -- FIRST STEPS AND OTHERS
   pub and-then : (n : ℕ) (at : Spot) (xs ys : List Step)
-      → walk d v n at (xs ++ ys) ≡ onward 0 (walk d v n at xs) (λ next. walk d v (n + counted xs) next ys)
-  unfolding walk counted
+      → walk d v n at (xs ++ ys) ≡ onward 0 (walk d v n at xs) (λ next. walk d v (n + length xs) next ys)
+  unfolding walk
   and-then n at [] ys = rw (add-zero n, zero-add (at .start), zero-add (at .end))
   and-then n at (x ∷ xs) ys = go (stride d (handed v at) n x) (λ next. and-then (suc n) next xs ys)
     where
-      more : n + (1 + counted xs) ≡ suc n + counted xs
+      more : n + suc (length xs) ≡ suc n + length xs
       more = omega arith
 
-      go : (r : Answer) → ((next : Spot) → walk d v (suc n) next (xs ++ ys) ≡ onward 0 (walk d v (suc n) next xs) (λ to. walk d v (suc n + counted xs) to ys))
+      go : (r : Answer) → ((next : Spot) → walk d v (suc n) next (xs ++ ys) ≡ onward 0 (walk d v (suc n) next xs) (λ to. walk d v (suc n + length xs) to ys))
           → onward (at .start) r (λ next. walk d v (suc n) next (xs ++ ys))
-          ≡ onward 0 (onward (at .start) r (λ next. walk d v (suc n) next xs)) (λ next. walk d v (n + (1 + counted xs)) next ys)
+          ≡ onward 0 (onward (at .start) r (λ next. walk d v (suc n) next xs)) (λ next. walk d v (n + suc (length xs)) next ys)
       go (gives code [] place) later = refl
       go (gives code (k ∷ values) place) later = rw more (later (spotOf (at .start) (k ∷ values)))
 
   -- ONE STEP MORE: where the steps before it ended, the single lookup in the bytes that they found, said from the whole's first byte
   pub next-step : (xs : List Step) (x : Step)
-      → asked d v (xs ++ (x ∷ [])) ≡ onward 0 (asked d v xs) (λ at. onward (at .start) (asStep (counted xs) (single d (handed v at) x)) arrival)
+      → asked d v (xs ++ (x ∷ [])) ≡ onward 0 (asked d v xs) (λ at. onward (at .start) (asStep (length xs) (single d (handed v at) x)) arrival)
   unfolding asked walk stride _otherwise_
   next-step xs x = go (dictionary.checks d)
     where
       go : (f : Found) → (f otherwise walk d v 0 (whole v) (xs ++ (x ∷ [])))
-          ≡ onward 0 (f otherwise walk d v 0 (whole v) xs) (λ at. onward (at .start) (asStep (counted xs) (single d (handed v at) x)) arrival)
-      go pass = and-then 0 (whole v) xs (x ∷ []) ∙ rw (zero-add (counted xs))
+          ≡ onward 0 (f otherwise walk d v 0 (whole v) xs) (λ at. onward (at .start) (asStep (length xs) (single d (handed v at) x)) arrival)
+      go pass = and-then 0 (whole v) xs (x ∷ []) ∙ rw (zero-add (length xs))
       go (stop c p) = refl

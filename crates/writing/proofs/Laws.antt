@@ -2,7 +2,7 @@
 use Rattle.rules.proofs.Prelude.{_≡_, refl, ap, _∙_, List, [], _∷_, ℕ, _+_, _*_, arith, length, length-append}
 use Rattle.steps.specs.Path.{Step}
 use Rattle.steps.specs.Path.Step.{named, indexed}
-use Rattle.writing.specs.Written.{textOf, weight, rowOf, namesOf, wordsOf, counted, total}
+use Rattle.writing.specs.Written.{textOf, weight, rowOf, namesOf, wordsOf, total}
 
 pub row-length : (from : ℕ) (x : Step) → length (rowOf from x) ≡ 3
 row-length from (named t) = refl
@@ -13,8 +13,8 @@ unfolding namesOf total weight
 names-length [] = refl
 names-length (x ∷ xs) = length-append (textOf x) (namesOf xs) ∙ ap (λ (n : ℕ). length (textOf x) + n) (names-length xs)
 
-pub words-length : (from : ℕ) (xs : List Step) → length (wordsOf from xs) ≡ 3 * counted xs
-unfolding wordsOf counted
+pub words-length : (from : ℕ) (xs : List Step) → length (wordsOf from xs) ≡ 3 * length xs
+unfolding wordsOf
 words-length from [] = refl
 words-length from (x ∷ xs) =
     let e = length-append (rowOf from x) (wordsOf (from + weight x) xs) in

@@ -3,7 +3,7 @@ use Rattle.rules.proofs.Prelude.{_≡_, refl, sym, ap₂, _∙_, false, List, �
 use lib.Seq.{length-take-le}
 use Rattle.brackets.specs.Brackets.{indexLimit, content}
 use Rattle.steps.specs.Path.{Step, Parsed, next, add, parse}
-use Rattle.writing.specs.Written.{Sizes, weight, total, counted, sizes}
+use Rattle.writing.specs.Written.{Sizes, weight, total, sizes}
 use Rattle.steps.specs.Path.Step.{named, indexed}
 use Rattle.steps.specs.Path.Next.{wrong, takes}
 use Rattle.steps.specs.Path.Parsed.{refused, steps}
@@ -18,9 +18,9 @@ grow k m (bad code) = bad code
 grow k m (of a b) = of (k + a) (m + b)
 
 sizes-add : (x : Step) (p : Parsed) → sizes (add x p) ≡ grow 1 (weight x) (sizes p)
-unfolding grow counted total
+unfolding grow total
 sizes-add x (refused code) = refl
-sizes-add x (steps xs) = refl
+sizes-add x (steps xs) = ap₂ of (omega arith) refl
 
 grow-grow : (k m a b : ℕ) (z : Sizes) → grow k m (grow a b z) ≡ grow (k + a) (m + b) z
 unfolding grow
@@ -48,7 +48,7 @@ module _ {s : List ℕ} {at count sum : ℕ} (r : Counted s at count sum) where
   count-wrong {code = code} h e = sym (r .sizes-are ∙ rw (parse-wrong s at code h e))
 
   pub count-end : length s ≤ at → of count sum ≡ sizes (parse 0 s)
-  unfolding grow counted total
+  unfolding grow total
   count-end h = sym (r .sizes-are ∙ rw (parse-end s at h) (ap₂ of (omega arith) (omega arith)))
 
   pub count-turn : {len more : ℕ} → at < length s → TakesOf s at len more → Counted s (at + (more + 1)) (count + 1) (sum + len)

@@ -11,7 +11,7 @@ use Rattle.steps.specs.Path.Step.{named, indexed}
 use Rattle.steps.specs.Path.Next.{wrong, takes}
 use Rattle.steps.specs.Path.Parsed.{refused, steps}
 use Rattle.steps.proofs.Laws.{parse-end, parse-wrong, parse-step}
-use Rattle.writing.specs.Written.{textOf, weight, rowOf, namesOf, wordsOf, counted, total}
+use Rattle.writing.specs.Written.{textOf, weight, rowOf, namesOf, wordsOf, total}
 use Rattle.writing.specs.Steps.{TakesOf, Due, WroteOf, Room, stepsIn}
 use Rattle.writing.specs.declared.Wrote.{Wrote}
 use Rattle.writing.proofs.Laws.{row-length}
@@ -95,7 +95,7 @@ pub record Written (s names₀ words₀ : List ℕ) (at used row : ℕ) (names w
   pub names-are : sets names₀ 0 (namesOf (stepsIn (parse 0 s))) ≡ sets names used (namesOf rest)
   pub words-are : sets words₀ 0 (wordsOf 0 (stepsIn (parse 0 s))) ≡ sets words row (wordsOf used rest)
   pub names-room : used + total rest ≤ length names
-  pub words-room : row + 3 * counted rest ≤ length words
+  pub words-room : row + 3 * length rest ≤ length words
   pub fits : used + total rest ≤ u32Max
   pub same-names : length names ≡ length names₀
   pub same-words : length words ≡ length words₀
@@ -118,11 +118,11 @@ write-start r =
 
 module _ {s names₀ words₀ : List ℕ} {at used row : ℕ} {names words : List ℕ} (r : Written s names₀ words₀ at used row names words) where
   pub write-due : at < length s → Due s at used row names words
-  unfolding total counted
+  unfolding total
   write-due h =
       let d = head-of s at (r .rest) h (r .rest-is) in
       let t : total (r .rest) ≡ weight (d .step) + total (d .tail) = ap total (d .rest-is) in
-      let k : counted (r .rest) ≡ 1 + counted (d .tail) = ap counted (d .rest-is) in
+      let k : length (r .rest) ≡ suc (length (d .tail)) = ap length (d .rest-is) in
       record {
         step = d .step;
         more = d .more;
@@ -134,14 +134,14 @@ module _ {s names₀ words₀ : List ℕ} {at used row : ℕ} {names words : Lis
 
   pub write-turn : {names′ words′ : List ℕ} {w : Wrote} → at < length s → WroteOf s at used row names words names′ words′ w
       → Written s names₀ words₀ (at + (w .more + 1)) (used + w .len) (row + 3) names′ words′
-  unfolding namesOf wordsOf total counted weight
+  unfolding namesOf wordsOf total weight
   write-turn {w = w} h o =
       let d = head-of s at (r .rest) h (r .rest-is) in
       let x = o .step in
       let same = takes-inj (sym (d .is) ∙ o .is) in
       let rest-is : r .rest ≡ x ∷ d .tail = d .rest-is ∙ ap (λ (y : Step). y ∷ d .tail) (same .0) in
       let t : total (r .rest) ≡ w .len + total (d .tail) = ap total rest-is ∙ ap (λ (n : ℕ). n + total (d .tail)) (o .weighs) in
-      let k : counted (r .rest) ≡ 1 + counted (d .tail) = ap counted rest-is in
+      let k : length (r .rest) ≡ suc (length (d .tail)) = ap length rest-is in
       let ln = ap length (o .names-are) ∙ length-sets names used (textOf x) in
       let lw = ap length (o .words-are) ∙ length-sets words row (rowOf used x) in
       record {

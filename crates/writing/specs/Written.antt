@@ -30,18 +30,14 @@ unfoldable pub wordsOf : (from : ℕ) → List Step → List ℕ
 wordsOf from [] = []
 wordsOf from (x ∷ xs) = rowOf from x ++ wordsOf (from + weight x) xs
 
--- how many steps, and the names' total
-unfoldable pub counted : List Step → ℕ
-counted [] = 0
-counted (x ∷ xs) = 1 + counted xs
-
+-- the names' total
 unfoldable pub total : List Step → ℕ
 total [] = 0
 total (x ∷ xs) = weight x + total xs
 
 -- THERE IS ROOM for them: three words a step, the bytes of the names, and their total is within the u32 range
 pub record Fits (names words : List ℕ) (xs : List Step) : Type 0 where
-  pub rows : 3 * counted xs ≤ length words
+  pub rows : 3 * length xs ≤ length words
   pub bytes : total xs ≤ length names
   pub range : total xs ≤ u32Max
 
@@ -52,4 +48,4 @@ pub data Sizes : Type 0 where
 
 abbrev pub sizes : Parsed → Sizes
 sizes (refused code) = bad code
-sizes (steps xs) = of (counted xs) (total xs)
+sizes (steps xs) = of (length xs) (total xs)
