@@ -3,11 +3,9 @@
 use Rattle.rules.proofs.Prelude.{_≡_, refl, _∙_, _↔_, List, [], _∷_, ℕ, _+_, _≤_, _<_, arith, decLt, lt-ltb, le-ltb, length, getD, Answer, accept, gives, refuse, stop, _&_}
 use Rattle.rules.proofs.Prelude.{first-at, Meant, by-rows, meant-then, meant-map, meant-stop, rows-mean, each-means, by-meaning, stops}
 use Prim.Native.Nat.{_%_}
-use Rattle.width.specs.Limits.{u32Max}
 use Rattle.dictionary.specs.Limits.{limit}
 use Rattle.layout.specs.Layout.{count, rules}
-use Rattle.layout.proofs.Laws.{end-is, start-before, count-below}
-use Rattle.encoding.specs.Encoding.{listWidths, countWidth}
+use Rattle.layout.proofs.Laws.{end-is}
 use Rattle.list.specs.List.{elementRules, checks as listChecks}
 use Rattle.list.proofs.Laws as laws
 use Rattle.list.proofs.Means as list

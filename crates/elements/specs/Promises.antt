@@ -1,7 +1,7 @@
 -- What the call promises, once for its `ensures` and for proofs/Pinned.antt; and what its step does. Assumes nothing.
 use mathlib.Core.Path.{_≡_}
 use mathlib.Core.List.{List}
-use Prim.Native.Nat.{ℕ, _≤_, _<_, _%_}
+use Prim.Native.Nat.{ℕ, _≤_, _%_}
 use lib.ListN.{length, getD}
 use Rattle.dictionary.specs.Limits.{limit}
 use Rattle.layout.specs.declared.Widths.{Widths}

@@ -10,7 +10,7 @@ use Rattle.metadata.proofs.Refuses as dictionary-refuses
 use Rattle.layout.specs.Layout.{count, start}
 use Rattle.layout.proofs.Laws.{count-below}
 use Rattle.encoding.specs.Encoding.{listWidths}
-use Rattle.object.proofs.Fits.{layer-small, child-small}
+use Rattle.object.proofs.Fits.{layer-small}
 use Rattle.lookup.proofs.Found as lookup
 use Rattle.elements.specs.Element.{widths}
 use Rattle.elements.specs.Meaning as list

@@ -1,5 +1,5 @@
 -- Laws of the walk: one step more, and how the loop comes to its end. Assumes nothing.
-use Rattle.rules.proofs.Prelude.{_≡_, refl, sym, ap, _∙_, List, [], _∷_, ℕ, zero, suc, _+_, _-_, _*_, _≤_, _<_, arith, add-one, length, getD, Answer, accept, gives, refuse}
+use Rattle.rules.proofs.Prelude.{_≡_, sym, _∙_, List, [], _∷_, ℕ, suc, _+_, _-_, _*_, _≤_, _<_, arith, add-one, length, Answer, accept, gives, refuse}
 use Rattle.part.specs.Part.{part}
 use Rattle.part.proofs.Laws.{part-length}
 use Rattle.steps.specs.Path.{Step}

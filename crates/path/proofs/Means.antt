@@ -1,5 +1,5 @@
 -- A path is answered exactly as specs/Meaning.antt says it in words. Assumes nothing.
-use Rattle.rules.proofs.Prelude.{_≡_, refl, sym, ap, _∙_, _↔_, Bool, true, false, cond, eqb, List, [], _∷_, ℕ, suc, arith, Answer, refuse, pass, stop, by-meaning, answered}
+use Rattle.rules.proofs.Prelude.{_≡_, refl, _∙_, _↔_, Bool, true, false, cond, eqb, List, [], _∷_, ℕ, suc, arith, Answer, refuse, pass, by-meaning, answered}
 use Rattle.rules.proofs.Laws as rules
 use borrow.Author.Tests.{eqb-true, eqb-false, ne-eqb}
 use Rattle.dictionary.specs.Dictionary as dictionary
@@ -20,7 +20,7 @@ use Rattle.parsing.specs.Parsing.{answer}
 use Rattle.parsing.specs.Meaning.{Accepted}
 use Rattle.parsing.proofs.Means as parsing
 use Rattle.strides.specs.declared.Spot.{Spot}
-use Rattle.strides.specs.Stride.{single, asStep, stride}
+use Rattle.strides.specs.Stride.{asStep, stride}
 use Rattle.path.specs.Path.{whole, handed, onward, walk, asked, byParsed, byPath}
 use Rattle.path.specs.Meaning.{Ends, Says}
 use Rattle.path.specs.Meaning.Ends.{arrived, by-name, by-index, no-name, no-index, no-object, no-list, bad-object, bad-list}

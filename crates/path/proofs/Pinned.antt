@@ -8,7 +8,6 @@ use Rattle.list.proofs.Pinned as list
 use Rattle.parsing.specs.declared.Refusal.the-variants as parsing
 use Rattle.parsing.proofs.Pinned.{refusalBy as pathBy}
 use Rattle.strides.specs.declared.Refusal.the-variants.{Layer, List as OfList, WrongKind}
-use Rattle.strides.specs.declared.Stride.{Stride}
 use Rattle.strides.specs.declared.Stride.the-variants.{Refused, Absent, Found}
 use Rattle.path.specs.declared.Asked.{Asked}
 use Rattle.path.specs.declared.Asked.the-variants.{BadPath, Walked}

@@ -1,6 +1,5 @@
 // The verdict on a tree as the six words of a strip.
 ghost use mathlib.Core.Path.{_≡_};
-ghost use mathlib.Core.List.{[], _∷_};
 ghost use Rattle.leaf.specs.Answers.{refusalNumber as leafNumber};
 ghost use Rattle.nodes.specs.Answers.{refusalNumber, refusalPlace};
 ghost use Rattle.marked.specs.Answers.{verdictNumbers};

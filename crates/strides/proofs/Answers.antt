@@ -1,5 +1,5 @@
 -- What a single lookup can answer: something found, with four values, or an answer without any. Assumes nothing.
-use Rattle.rules.proofs.Prelude.{_≡_, List, [], _∷_, ℕ, Found, pass, stop, Answer, accept, gives, _otherwise_}
+use Rattle.rules.proofs.Prelude.{List, [], _∷_, ℕ, Found, pass, stop, Answer, accept, gives, _otherwise_}
 use Rattle.dictionary.specs.Dictionary as dictionary
 use Rattle.lookup.proofs.Found as lookup
 use Rattle.elements.specs.Element.{element}

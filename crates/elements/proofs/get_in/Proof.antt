@@ -1,5 +1,5 @@
 -- `elements::get_in` meets its contract: the list's refusal, or its element where it has so many. Assumes nothing.
-use Rattle.rules.proofs.Prelude.{sym, _∙_, arith, needs}
+use Rattle.rules.proofs.Prelude.{sym, arith, needs}
 use Rattle.list.specs.Steps.{Opened}
 use Rattle.elements.proofs.Laws.{by-list, is-absent, found-so}
 use Rattle.elements.proofs.get_in.Statement.{statement}

@@ -1,5 +1,5 @@
 -- `path::walk` meets its contract: what is left of the steps decides as all of them do. Assumes nothing.
-use Rattle.rules.proofs.Prelude.{_-_, _+_, arith, needs, length}
+use Rattle.rules.proofs.Prelude.{_-_, _+_, arith, needs}
 use Rattle.path.proofs.Laws.{Come, start as begin, stands, ends, turn, done}
 use Rattle.path.proofs.walk.Statement.{statement}
 use Rattle.path.proofs.walk.Tie as tie
