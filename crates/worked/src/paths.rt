@@ -83,13 +83,24 @@ fn kept(t: Tally) -> Tally {
     over_d(t, b"a[x]", 75, b"\x09\x09\x09\x09", b": 9 9 9 9 9 9 9")
 }
 
+// "roll" over D, into rooms and a strip.
+fn roll(
+    t: Tally,
+    names: &mut [u8],
+    rows: &mut [u32],
+    strip: &mut [u8],
+    code: usize,
+    spelt: &[u8],
+    want: &[u8],
+) -> Tally {
+    let d = b"\x11\x02\x00\x04\x08flowroll";
+    asked(t, d, b"roll", names, rows, strip, code, spelt, want)
+}
+
 // Room for the names' bytes and three words a step, and one less of either. A strip that is short leaves both, too.
 fn rooms(t: Tally) -> Tally {
-    let d = b"\x11\x02\x00\x04\x08flowroll";
-    let t = asked(
+    let t = roll(
         t,
-        d,
-        b"roll",
         &mut [9; 4],
         &mut [9; 3],
         &mut [9; 24],
@@ -97,10 +108,8 @@ fn rooms(t: Tally) -> Tally {
         b"roll",
         b": 0 0 4",
     );
-    let t = asked(
+    let t = roll(
         t,
-        d,
-        b"roll",
         &mut [9; 3],
         &mut [9; 3],
         &mut [9; 24],
@@ -108,10 +117,8 @@ fn rooms(t: Tally) -> Tally {
         b"\x09\x09\x09",
         b": 9 9 9",
     );
-    let t = asked(
+    let t = roll(
         t,
-        d,
-        b"roll",
         &mut [9; 4],
         &mut [9; 2],
         &mut [9; 24],
@@ -119,10 +126,8 @@ fn rooms(t: Tally) -> Tally {
         b"\x09\x09\x09\x09",
         b": 9 9",
     );
-    asked(
+    roll(
         t,
-        d,
-        b"roll",
         &mut [9; 4],
         &mut [9; 3],
         &mut [9; 23],
