@@ -1,5 +1,6 @@
 /*
- * Lichenhusk: a proved reader of the Variant binary encoding of Apache Parquet.
+ * Lichenhusk: a proved reader of the Variant binary encoding of Apache Parquet, and
+ * a writer of its dictionaries.
  *
  * A Variant comes as two buffers: a dictionary of field names (the encoding's
  * "metadata") and a value. These functions read the dictionary, one layer of an
@@ -7,7 +8,8 @@
  * into the object's children, but for how long each is, where the fields are
  * listed; a child that is handed to lichenhusk_value is read as any value. Two
  * functions go further: lichenhusk_tree checks a value with all that is below it,
- * and lichenhusk_path follows a path such as site.meter[2] into one.
+ * and lichenhusk_path follows a path such as site.meter[2] into one. And one writes:
+ * lichenhusk_write_dictionary makes a dictionary of names.
  *
  * Every function takes whatever bytes its buffers hold, keeps nothing,
  * allocates nothing and ends. It reads only the buffers that it is handed, and
@@ -20,9 +22,9 @@
  *   - A buffer is a pointer and a length. The pointer must not be null, not
  *     even for a length of 0: any other pointer will do there, say the address
  *     of some variable.
- *   - A buffer that is written (strip, words, marks, names of a path, room)
- *     shares no memory with another buffer of the same call.
- *   - words and ends are aligned as a uint32_t is.
+ *   - A buffer that is written (strip, words, marks, names of a path, order,
+ *     spare, room) shares no memory with another buffer of the same call.
+ *   - words, ends, order and spare are aligned as a uint32_t is.
  *
  * THE STRIP. The answer goes to the first LICHENHUSK_STRIP_BYTES of a buffer of
  * yours: six numbers of 32 bits, each with its lowest byte first, whatever the
@@ -33,7 +35,7 @@
  *   bytes  8 to 11   the id: the dictionary's entry that is a found field's name
  *   bytes 12 to 15   start; of a value that is a number, the low half of its bits
  *   bytes 16 to 19   end (the first byte that no longer belongs); of such a value,
- *                    the high half
+ *                    the high half; of a dictionary that is written, its length
  *   bytes 20 to 23   the place of a refusal
  *
  * A word that has no use in an answer is 0; on a refusal, all but the code and
@@ -144,7 +146,8 @@ enum lichenhusk_word_index {
  * after these, and 41 last. A value alone gets 50 or 51 and no other, but for 40.
  * Of a tree, an object or a list has its own checks before its children, and its
  * children come in their order, each with all that is below it. Of a path, 70 to
- * 76 come before the dictionary, and then the value is checked step by step.
+ * 76 come before the dictionary, and then the value is checked step by step. Of a
+ * dictionary that is written, 45 of all names comes first, then 10, and 46 last.
  */
 enum lichenhusk_code {
     /* Accepted, found, or written. */
@@ -153,7 +156,8 @@ enum lichenhusk_code {
      * element. */
     LICHENHUSK_ABSENT = 1,
 
-    /* The dictionary is longer than LICHENHUSK_LIMIT. */
+    /* The dictionary is longer than LICHENHUSK_LIMIT, or the one to be written
+     * would be. */
     LICHENHUSK_DICTIONARY_TOO_LONG = 10,
     /* The dictionary has no bytes. */
     LICHENHUSK_DICTIONARY_EMPTY = 11,
@@ -219,9 +223,13 @@ enum lichenhusk_code {
     LICHENHUSK_CHILD_LENGTH = 43,
 
     /* Of many names, one has an end that falls below where the name begins, or
-     * that passes the run of names. The place: the name, counted from 0 (of more
-     * than 4,294,967,296 ends, that number's low 32 bits). */
+     * that passes the run of names; or, of names to be written, it is not UTF-8.
+     * The place: the name, counted from 0 (of more than 4,294,967,296 ends, that
+     * number's low 32 bits). */
     LICHENHUSK_NAMES_END = 45,
+    /* Fewer bytes of room than the dictionary to be written has. None of them is
+     * written. */
+    LICHENHUSK_WRITE_NO_ROOM = 46,
 
     /* The value has no bytes, its header is cut, or its own length passes its
      * bytes or 4,294,967,295. */
@@ -573,6 +581,57 @@ uint32_t lichenhusk_path(const uint8_t *dict, size_t dict_len,
                          uint8_t *names, size_t names_len,
                          uint32_t *words, size_t words_len,
                          uint8_t *strip, size_t strip_len);
+
+/*
+ * Writes the dictionary of names: sorted by their bytes, each name once, and its
+ * numbers in the fewest bytes, 1 to 4, that hold both how many names it has and how
+ * long they are together. The names are given as to lichenhusk_lookup_all: a run of
+ * bytes, and ends[k] is where name k ends. Bytes of the run after the last end are
+ * ignored. Names may come in any order, and more than once: the same set of names
+ * gives the same bytes. A name may have no bytes. Of no names, the dictionary is
+ * 11 00 00. ends_len, order_len and spare_len count words.
+ *
+ * 0: the dictionary is the first bytes of room, and bytes after it stay as they are.
+ *    number is how many names it has, and end is its length. It is read back:
+ *    lichenhusk_dictionary accepts it with the same two, and lichenhusk_name finds
+ *    each name that was given, in their order.
+ * Otherwise a refusal, which leaves room as it is, in this order:
+ *      45 at the first name whose end falls below where it begins or passes the
+ *         run, or that is not UTF-8; all names are looked at before anything else
+ *      10, the dictionary would be longer than LICHENHUSK_LIMIT
+ *      46, room is shorter than the dictionary
+ * or 40, with which nothing at all is written. Nothing else is refused. A room of
+ * 9 bytes, 4 for each name and those of the run always does, and so does one of
+ * LICHENHUSK_LIMIT bytes.
+ *
+ * ORDER AND SPARE are scratch: they make it fast, and change no answer. Each is any
+ * number of words, 0 too, which hold anything before; what they hold afterwards is
+ * not said, under a refusal neither. With ends_len words or more in both, the names
+ * are sorted there: the time grows as that of sorting, with n log n for n names,
+ * whatever order they come in, sorted already, reversed or all equal too. With fewer
+ * in either, each next name is looked for among all: nothing is written but room and
+ * strip, scratch neither, and the time grows with the square of n.
+ *
+ * This makes the example's dictionary, and prints "2 names, 13 bytes":
+ *
+ *   const uint8_t run[] = "rollflowroll";
+ *   const uint32_t ends[] = {4, 8, 12};
+ *   uint32_t order[3], spare[3];
+ *   uint8_t room[9 + 4 * 3 + sizeof run];
+ *
+ *   if (lichenhusk_write_dictionary(run, sizeof run - 1, ends, 3, order, 3, spare, 3,
+ *                                   room, sizeof room,
+ *                                   strip, sizeof strip) == LICHENHUSK_OK)
+ *       printf("%u names, %u bytes\n",
+ *              (unsigned) lichenhusk_word(strip, LICHENHUSK_NUMBER),
+ *              (unsigned) lichenhusk_word(strip, LICHENHUSK_END));
+ */
+uint32_t lichenhusk_write_dictionary(const uint8_t *run, size_t run_len,
+                                     const uint32_t *ends, size_t ends_len,
+                                     uint32_t *order, size_t order_len,
+                                     uint32_t *spare, size_t spare_len,
+                                     uint8_t *room, size_t room_len,
+                                     uint8_t *strip, size_t strip_len);
 
 /*
  * Writes the empty dictionary, the bytes 01 00 00, to the first three bytes of

@@ -4,6 +4,7 @@ use Rattle.rules.proofs.Prelude.{length, take, drop, getD, set, sets}
 use Prim.Native.Nat.{_%_}
 use lib.Seq.{length-sets, drop-cons, take-nil}
 use Rattle.width.specs.Limits.{u32Max}
+use Rattle.put.proofs.Laws.{copy-turn, sets-append}
 use Rattle.brackets.specs.Brackets.{content}
 use Rattle.brackets.specs.Steps.{ByteOf}
 use Rattle.steps.specs.Path.{Step, Next, Parsed, next, add, parse}
@@ -17,42 +18,14 @@ use Rattle.writing.specs.declared.Wrote.{Wrote}
 use Rattle.writing.proofs.Laws.{row-length}
 
 -- COPIES, byte by byte
-take-more : (n a : ℕ) (s : List ℕ) → 0 < n → take n (a ∷ s) ≡ a ∷ take (n - 1) s
-take-more zero a s h = absurd (omega arith)
-take-more (suc n) a s h = let e : suc n - 1 ≡ n = omega arith in rw e
-
 module _ (l : List ℕ) (to i len : ℕ) where
-  copy-turn : (a : ℕ) (s : List ℕ) → i < len → sets l (to + i) (take (len - i) (a ∷ s)) ≡ sets (set l (to + i) a) (to + (i + 1)) (take (len - (i + 1)) s)
-  copy-turn a s h =
-      let e : to + (i + 1) ≡ suc (to + i) = omega arith in
-      let f : len - (i + 1) ≡ len - i - 1 = omega arith in
-      rw (take-more (len - i) a s (omega arith), e, f)
-
-  pub copy-end : (s : List ℕ) → len ≤ i → sets l (to + i) (take (len - i) s) ≡ l
-  copy-end s h = let e : len - i ≡ 0 = omega arith in rw e
-
-  pub plain-turn : (s : List ℕ) (from : ℕ) → i < len → from + len ≤ length s
-      → sets l (to + i) (take (len - i) (drop (from + i) s))
-      ≡ sets (set l (to + i) (getD s (from + i) 0)) (to + (i + 1)) (take (len - (i + 1)) (drop (from + (i + 1)) s))
-  plain-turn s from h k =
-      let e : from + (i + 1) ≡ suc (from + i) = omega arith in
-      let d : from + i < length s = omega arith in
-      rw (drop-cons s (from + i) 0 d, e) (copy-turn (getD s (from + i) 0) (drop (suc (from + i)) s) h)
-
   pub content-turn : (s : List ℕ) (at byte size : ℕ) → i < len → ByteOf s at byte size
       → sets l (to + i) (take (len - i) (content false (drop at s)))
       ≡ sets (set l (to + i) byte) (to + (i + 1)) (take (len - (i + 1)) (content false (drop (at + size) s)))
-  content-turn s at byte size h b = rw (b .content-is) (copy-turn byte (content false (drop (at + size) s)) h)
+  content-turn s at byte size h b = rw (b .content-is) (copy-turn l to i len byte (content false (drop (at + size) s)) h)
 
   pub content-none : (s : List ℕ) (at : ℕ) → content false (drop at s) ≡ [] → sets l (to + i) (take (len - i) (content false (drop at s))) ≡ l
   content-none s at e = rw (e, take-nil (len - i))
-
--- one run of stores after another
-sets-append : (l : List ℕ) (i : ℕ) (vs ws : List ℕ) → sets l i (vs ++ ws) ≡ sets (sets l i vs) (i + length vs) ws
-sets-append l i [] ws = let e : i + 0 ≡ i = omega arith in rw e
-sets-append l i (a ∷ vs) ws =
-    let e : i + suc (length vs) ≡ suc i + length vs = omega arith in
-    rw e (sets-append (set l i a) (suc i) vs ws)
 
 -- WHAT STANDS NEXT, where the rest is steps
 takes-inj : {x y : Step} {n m : ℕ} → takes x n ≡ takes y m → (x ≡ y) × (n ≡ m)

@@ -62,18 +62,6 @@ pub fn measure_steps(path: &[u8]) -> Measure
     Measure::Good { count, total }
 }
 
-// `len` bytes of the path, as they stand, into the names at `to`.
-fn copy_plain(path: &[u8], from: usize, len: usize, names: &mut [u8], to: usize)
-    requires { ⌜ (from + len ≤ length (now path)) × (to + len ≤ length (now names)) ⌝ }
-    ensures { λ _. ⌜ now (names .exit) ≡ sets (now (names .entry)) to (take len (drop from (now (path .entry)))) ⌝ }
-{
-    let mut i = 0;
-    while i < len {
-        names[to + i] = path[from + i];
-        i += 1;
-    }
-}
-
 // `len` bytes of what brackets hold, without the backslashes, into the names at `to`.
 fn copy_content(path: &[u8], from: usize, len: usize, names: &mut [u8], to: usize)
     requires { ⌜ to + len ≤ length (now names) ⌝ }
@@ -131,7 +119,7 @@ fn write_step(
     match scan {
         Scan::Wrong(_) => Wrote { len: 0, more: 0 },
         Scan::Plain { from, len, more } => {
-            copy_plain(path, from, len, names, used);
+            put::copy(path, from, len, names, used);
             put_row(words, row, 0, used, used + len);
             Wrote { len, more }
         }

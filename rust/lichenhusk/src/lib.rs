@@ -1,17 +1,17 @@
-//! Safe calls to Lichenhusk, a reader of the Variant binary encoding of Apache Parquet whose
-//! code is proved to meet its definitions.
+//! Safe calls to Lichenhusk, a reader of the Variant binary encoding of Apache Parquet, and a writer of
+//! its dictionaries, whose code is proved to meet its definitions.
 //!
 //! A Variant comes as two buffers: a dictionary of field names and a value. This crate checks a
 //! dictionary and one layer of an object, finds a field by its name, or many by theirs, lists the
 //! fields, and reads a value. It does not look into the children, but for how long each is where they
 //! are listed: a child is handed back as bytes of the object, which can be read as a value in turn.
 //! [`check_tree`] checks a value with all that is below it, and [`path`](path()) follows names and
-//! indices into it.
+//! indices into it. [`write_dictionary`] writes a dictionary of names.
 //!
-//! Each call checks what it is lent from the start, and keeps and copies nothing. Any bytes may
-//! be lent; what is wrong with them is a [`Refusal`] with a number and a place. What a C caller
-//! must see to (no null pointer, no shared memory, alignment), a slice brings with it; [`raw`]
-//! says how. The functions called are proved; this crate around them is tested.
+//! Each call checks what it is lent from the start, keeps nothing, and copies nothing but what it
+//! writes. Any bytes may be lent; what is wrong with them is a [`Refusal`] with a number and a place.
+//! What a C caller must see to (no null pointer, no shared memory, alignment), a slice brings with it;
+//! [`raw`] says how. The functions called are proved; this crate around them is tested.
 //!
 //! ```
 //! use lichenhusk::{Message, Value};
@@ -50,6 +50,7 @@ mod refusal;
 mod strip;
 mod tree;
 mod value;
+mod write;
 
 pub use message::Message;
 pub use path::{Reached, path, path_with};
@@ -57,6 +58,7 @@ pub use refusal::Refusal;
 pub use strip::Strip;
 pub use tree::{TreeRefusal, check_tree, check_tree_with};
 pub use value::{Child, Kind, Value, find, value};
+pub use write::{Written, write_dictionary, write_dictionary_into};
 
 /// The most bytes that a dictionary, or an object, may have.
 pub const LIMIT: usize = 16_777_216;

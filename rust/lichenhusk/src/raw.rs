@@ -108,6 +108,21 @@ unsafe extern "C" {
         strip_len: usize,
     ) -> u32;
 
+    fn lichenhusk_write_dictionary(
+        run: *const u8,
+        run_len: usize,
+        ends: *const u32,
+        ends_len: usize,
+        order: *mut u32,
+        order_len: usize,
+        spare: *mut u32,
+        spare_len: usize,
+        room: *mut u8,
+        room_len: usize,
+        strip: *mut u8,
+        strip_len: usize,
+    ) -> u32;
+
     fn lichenhusk_empty(room: *mut u8, room_len: usize) -> u32;
 }
 
@@ -255,6 +270,36 @@ pub fn path(
             names.len(),
             words.as_mut_ptr(),
             words.len(),
+            strip.as_mut_ptr(),
+            strip.len(),
+        )
+    }
+}
+
+/// Writes the dictionary of names, by their run and ends, to the first bytes of a room; the strip holds
+/// how many names there are in it and its length as the end. The two rows of words are scratch: they may
+/// be of any length and hold anything, and what they hold afterwards is not said.
+pub fn write_dictionary(
+    run: &[u8],
+    ends: &[u32],
+    order: &mut [u32],
+    spare: &mut [u32],
+    room: &mut [u8],
+    strip: &mut [u8],
+) -> u32 {
+    // SAFETY: as the head of this module says.
+    unsafe {
+        lichenhusk_write_dictionary(
+            run.as_ptr(),
+            run.len(),
+            ends.as_ptr(),
+            ends.len(),
+            order.as_mut_ptr(),
+            order.len(),
+            spare.as_mut_ptr(),
+            spare.len(),
+            room.as_mut_ptr(),
+            room.len(),
             strip.as_mut_ptr(),
             strip.len(),
         )

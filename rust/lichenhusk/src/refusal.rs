@@ -12,7 +12,8 @@ use std::fmt;
 /// first, and when all are done, 27 and 28 of each. Of a listing, 43 comes after these, and 41 last. A
 /// value that is read gets 50 or 51 and no other. Of a tree, an object or a list has its own checks
 /// before its children, and these come in their order. A path's own refusals, 70 to 76, come before
-/// the dictionary's, and then the value is checked step by step.
+/// the dictionary's, and then the value is checked step by step. Of a dictionary that is written, 45 of
+/// all names comes first, then 10, and 46 last.
 ///
 /// ```
 /// let refusal = lichenhusk::dictionary(&[1, 1, 0, 1, 0xFF]).unwrap_err();
@@ -33,7 +34,7 @@ use std::fmt;
 /// ```
 #[derive(Clone, Copy, Debug, PartialEq, Eq, Hash)]
 pub enum Refusal {
-    /// 10: the dictionary is longer than [`LIMIT`].
+    /// 10: the dictionary is longer than [`LIMIT`], or the one to be written would be.
     DictionaryTooLong,
     /// 11: the dictionary has no bytes.
     DictionaryEmpty,
@@ -111,11 +112,14 @@ pub enum Refusal {
         /// The first such field.
         field: u32,
     },
-    /// 45: of many names, the end of one falls below where it begins or passes the run of names.
+    /// 45: of many names, the end of one falls below where it begins or passes the run of names; or,
+    /// of names that are to be written, one is not UTF-8.
     NamesEnd {
         /// The first such name.
         name: u32,
     },
+    /// 46: there are fewer bytes of room than the dictionary has that is to be written.
+    WriteNoRoom,
     /// 50: the value has no bytes, its header is cut, or its own length passes its bytes or
     /// 4,294,967,295.
     ValueShort,
@@ -198,6 +202,7 @@ impl Refusal {
             42 => RoomTooSmall,
             43 => ChildLength { field: place },
             45 => NamesEnd { name: place },
+            46 => WriteNoRoom,
             50 => ValueShort,
             51 => ValueType,
             52 => ValueTooDeep,
@@ -257,6 +262,7 @@ impl Refusal {
             RoomTooSmall => 42,
             ChildLength { .. } => 43,
             NamesEnd { .. } => 45,
+            WriteNoRoom => 46,
             ValueShort => 50,
             ValueType => 51,
             ValueTooDeep => 52,
@@ -366,7 +372,11 @@ impl fmt::Display for Refusal {
             ),
             NamesEnd { name } => write!(
                 to,
-                "the end of name {name} falls below where it begins or passes the run of names"
+                "the end of name {name} falls below where it begins or passes the run of names, or the name is to be written and is not UTF-8"
+            ),
+            WriteNoRoom => write!(
+                to,
+                "there are fewer bytes of room than the dictionary to be written has"
             ),
             ValueShort => write!(
                 to,

@@ -24,7 +24,8 @@ pub struct Strip {
     /// Where what was found starts; of a value that is a number, the low half of its bits; of a tree
     /// that is refused, where the value starts that it is for.
     pub start: u32,
-    /// Where it ends; of such a value, the high half; of a tree, how long the value is.
+    /// Where it ends; of such a value, the high half; of a tree, how long the value is; of a dictionary
+    /// that was written, how long that is.
     pub end: u32,
     /// The place of a refusal.
     pub place: u32,

@@ -284,8 +284,8 @@ int main(void)
 }
 "#;
 
-/// What the header's piece of code for a path is put into.
-const AROUND_PATH: [&str; 2] = [
+/// What a piece of the header's code is put into.
+const AROUND: [&str; 2] = [
     r#"
 #include <stdio.h>
 #include "lichenhusk.h"
@@ -295,23 +295,94 @@ int main(void)
     const uint8_t dict[] = {0x11, 2, 0, 4, 8, 'f', 'l', 'o', 'w', 'r', 'o', 'l', 'l'};
     uint8_t strip[LICHENHUSK_STRIP_BYTES];
 "#,
-    "    return 0;\n}\n",
+    "    (void) dict;\n    return 0;\n}\n",
 ];
 
-/// That piece of code does what is said before it.
-#[test]
-fn the_example_of_a_path_runs() {
+/// The piece of code after a line of the header does what is said there.
+fn the_piece_prints(name: &str, said: &str, prints: &str) {
     let header = header();
-    let mut lines = header
-        .lines()
-        .skip_while(|line| !line.contains("With the example's dictionary, this prints"));
-    let prints = lines.next().and_then(|line| line.split('"').nth(1));
+    let mut lines = header.lines().skip_while(|line| !line.contains(said));
+    let line = lines.next().expect("the header says so");
+    assert_eq!(line.split('"').nth(1), Some(prints));
     let code = lines.take_while(|line| !line.contains("*/"));
     let code: Vec<&str> = code.map(|line| line.trim_start_matches(" *")).collect();
-    let [before, after] = AROUND_PATH;
-    let printed = printed("path", &[before, &code.join("\n"), "\n", after].concat());
-    assert_eq!(Some(printed.trim_end()), prints);
-    assert_eq!(prints, Some("-5"));
+    let [before, after] = AROUND;
+    let printed = printed(name, &[before, &code.join("\n"), "\n", after].concat());
+    assert_eq!(printed.trim_end(), prints);
+}
+
+#[test]
+fn the_example_of_a_path_runs() {
+    let said = "With the example's dictionary, this prints";
+    the_piece_prints("path", said, "-5");
+}
+
+#[test]
+fn the_example_of_writing_runs() {
+    let said = "This makes the example's dictionary, and prints";
+    the_piece_prints("written", said, "2 names, 13 bytes");
+}
+
+/// Names written with scratch and without, then a name that is no text, and too little room, which both
+/// leave it.
+const WRITE: &str = r#"
+#include <stdio.h>
+#include "lichenhusk.h"
+
+static uint8_t strip[LICHENHUSK_STRIP_BYTES];
+static uint8_t room[14];
+
+static uint32_t put(size_t scratch, size_t names, size_t bytes)
+{
+    const uint8_t run[] = {'r', 'o', 'l', 'l', 'f', 'l', 'o', 'w', 0xFF};
+    const uint32_t ends[] = {4, 8, 8, 9};
+    uint32_t order[4], spare[4];
+    size_t k;
+
+    for (k = 0; k < sizeof room; k++)
+        room[k] = 7;
+    return lichenhusk_write_dictionary(run, sizeof run, ends, names, order, scratch,
+                                       spare, scratch, room, bytes, strip, sizeof strip);
+}
+
+static void print(void)
+{
+    size_t k;
+
+    for (k = 0; k < sizeof room; k++)
+        printf("%02X", (unsigned) room[k]);
+}
+
+int main(void)
+{
+    if (put(4, 2, sizeof room) != LICHENHUSK_OK)
+        return 1;
+    print();
+    if (put(1, 2, 13) != LICHENHUSK_OK)
+        return 2;
+    printf(" ");
+    print();
+    if (put(4, 4, sizeof room) != LICHENHUSK_NAMES_END)
+        return 3;
+    printf("; name %u ", (unsigned) lichenhusk_word(strip, LICHENHUSK_PLACE));
+    print();
+    if (put(4, 3, 13) != LICHENHUSK_WRITE_NO_ROOM)
+        return 4;
+    printf("; no room ");
+    print();
+    printf("\n");
+    return 0;
+}
+"#;
+
+#[test]
+fn writing_from_c() {
+    let dict = "1102000408666C6F77726F6C6C07";
+    let left = "07".repeat(14);
+    assert_eq!(
+        printed("write", WRITE),
+        format!("{dict} {dict}; name 3 {left}; no room {left}\n")
+    );
 }
 
 /// The steps of a path as they are written, one that goes into another kind, and one that is refused.

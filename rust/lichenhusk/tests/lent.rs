@@ -18,7 +18,7 @@ const CHILD_UNKNOWN: &str = "02 02 00 01 00 01 02 00 FC";
 type Call = (&'static str, fn(&mut [u8]) -> u32);
 
 /// Each call that fills a strip, on bytes that are accepted.
-fn calls() -> [Call; 9] {
+fn calls() -> [Call; 10] {
     [
         ("lookup", |strip| {
             raw::lookup(&hex(D), &hex(P), b"roll", strip)
@@ -40,11 +40,15 @@ fn calls() -> [Call; 9] {
             let (names, words) = (&mut [7; 4], &mut [7; 3]);
             raw::path(&hex(D), &hex(P), b"roll", names, words, strip)
         }),
+        ("write_dictionary", |strip| {
+            let (order, spare, room) = (&mut [7; 2], &mut [7; 2], &mut [7; 14]);
+            raw::write_dictionary(b"rollflow", &[4, 8], order, spare, room, strip)
+        }),
     ]
 }
 
 /// Each call that fills a strip, on bytes that are refused.
-fn refused_calls() -> [Call; 9] {
+fn refused_calls() -> [Call; 10] {
     [
         ("lookup", |strip| raw::lookup(&[2], &hex(P), b"roll", strip)),
         ("dictionary", |strip| raw::dictionary(&[2], strip)),
@@ -59,6 +63,10 @@ fn refused_calls() -> [Call; 9] {
         ("path", |strip| {
             let (names, words) = (&mut [7; 4], &mut [7; 3]);
             raw::path(&[2], &hex(P), b"roll", names, words, strip)
+        }),
+        ("write_dictionary", |strip| {
+            let (order, spare, room) = (&mut [7; 1], &mut [7; 1], &mut [7; 14]);
+            raw::write_dictionary(b"\xFF", &[1], order, spare, room, strip)
         }),
     ]
 }
@@ -131,11 +139,14 @@ fn every_word_of_each_answer() {
         [0, 2, 0, 7, 10, 0],
         [0, 2, 0, 7, 10, 0],
         [0, 3, 0, -5_i32 as u32, -1_i32 as u32, 0],
+        [0, 0, 0, 0, 10, 0],
+        [0, 1, 1, 7, 10, 0],
+        [0, 2, 0, 0, 13, 0],
     ];
     for ((name, call), answer) in calls().into_iter().zip(answers) {
         assert_eq!(words_of(call), answer, "{name}");
     }
-    let numbers = [12, 12, 12, 12, 12, 12, 51];
+    let numbers = [12, 12, 12, 12, 12, 12, 51, 12, 12, 45];
     for ((name, call), number) in refused_calls().into_iter().zip(numbers) {
         assert_eq!(words_of(call), [number, 0, 0, 0, 0, 0], "{name}");
     }
@@ -261,6 +272,8 @@ fn empty_slices() {
         0
     );
     assert_eq!(raw::value(&[], &mut strip), 50);
+    let no_room = raw::write_dictionary(&[], &[], &mut [], &mut [], &mut [], &mut strip);
+    assert_eq!(no_room, 46);
     assert_eq!(raw::dictionary(&[], &mut []), 40);
     assert_eq!(raw::value(&[], &mut []), 40);
     assert_eq!(raw::empty(&mut []), 42);

@@ -1,7 +1,8 @@
 -- `writing::copy_content` meets its contract: the loop keeps that what is left makes the same of the names as the whole. Assumes nothing.
 use Rattle.rules.proofs.Prelude.{_≡_, refl, sym, _∙_, false, _+_, _-_, _≤_, length, take, drop, sets, length-set, arith, needs}
 use Rattle.brackets.specs.Brackets.{content}
-use Rattle.writing.proofs.Writes.{copy-end, content-turn, content-none}
+use Rattle.put.proofs.Laws.{copy-end}
+use Rattle.writing.proofs.Writes.{content-turn, content-none}
 use Rattle.writing.proofs.copy_content.Statement.{statement}
 use Rattle.writing.proofs.copy_content.Tie as tie
 

@@ -18,7 +18,7 @@ write-step-spec =
     (λ c. search needs)  -- enum-known-scan
     (λ c κs. let m = c .before .before in
     let r = rw (m .scan .given .1) at (m .before .before .step-at .ensures) in
-    (r .1 .0, due-room (m .before .before .before .before .before .before .pre .1) (plain-takes (m .scan .given .0 .0) (r .0) (r .1)) .0))  -- copy-plain-requires
+    (r .1 .0, due-room (m .before .before .before .before .before .before .pre .1) (plain-takes (m .scan .given .0 .0) (r .0) (r .1)) .0))  -- copy-requires
     (λ c. let m = c .before .before .before .before .before .before in
     let r = rw (m .scan .given .1) at (m .before .before .step-at .ensures) in
     omega (arith, due-room (m .before .before .before .before .before .before .pre .1) (plain-takes (m .scan .given .0 .0) (r .0) (r .1))))  -- add-put-row
@@ -49,7 +49,7 @@ write-step-spec =
     let rest = drop (m .scan .given .0 .0) (m .before .before .before .before .before .before .args .path .now) in
     let n = m .scan .given .0 .1 .0 in
     let whole = length-take-le n rest (simp length-drop (omega (arith, r .1 .0))) in
-    wrote-name (take n rest) (r .0) whole (r .1 .2) (c .before .before .before .before .before .before .copy-plain .ensures) (c .before .before .put-row .ensures))  -- returns-2
+    wrote-name (take n rest) (r .0) whole (r .1 .2) (c .before .before .before .before .before .before .copy .ensures) (c .before .before .put-row .ensures))  -- returns-2
     (λ c. search needs)  -- same-length-3
     (λ c. search needs)  -- same-length-4
     (λ c. let m = c .before .before .before .before .before .before .before .before .before in

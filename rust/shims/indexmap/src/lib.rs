@@ -1,7 +1,13 @@
 //! A stand-in for indexmap: what parquet-variant 60.0.0 names of it, and no more. Only its
-//! builders do; looking up is a walk from the start.
+//! builders do.
+//!
+//! In a map, looking up is a walk from the start. A set, which a builder of metadata has its names in
+//! and whose time is taken, has a table of hashes, by the library's hash function, as indexmap's own
+//! has it.
 
 use std::cmp::Ordering;
+use std::collections::HashMap;
+use std::hash::{BuildHasher, BuildHasherDefault, Hash, Hasher, RandomState};
 
 /// Keys with values, in the order in which they came.
 #[derive(Debug, Clone)]
@@ -57,41 +63,79 @@ impl<K: Eq, V> IndexMap<K, V> {
 
 /// Things, each once, in the order in which they came.
 #[derive(Debug, Clone)]
-pub struct IndexSet<T>(Vec<T>);
+pub struct IndexSet<T> {
+    things: Vec<T>,
+    /// Which is the first thing of a hash.
+    firsts: HashMap<u64, usize, BuildHasherDefault<Hashed>>,
+    hashes: RandomState,
+}
 
-impl<T> Default for IndexSet<T> {
-    fn default() -> Self {
-        IndexSet(Vec::new())
+/// What is hashed already.
+#[derive(Debug, Default, Clone)]
+pub struct Hashed(u64);
+
+impl Hasher for Hashed {
+    fn finish(&self) -> u64 {
+        self.0
+    }
+
+    fn write(&mut self, _: &[u8]) {
+        unreachable!("hashes are numbers of 64 bits")
+    }
+
+    fn write_u64(&mut self, hash: u64) {
+        self.0 = hash;
     }
 }
 
-impl<T: Eq> IndexSet<T> {
+impl<T> Default for IndexSet<T> {
+    fn default() -> Self {
+        IndexSet {
+            things: Vec::new(),
+            firsts: HashMap::default(),
+            hashes: RandomState::new(),
+        }
+    }
+}
+
+impl<T: Eq + Hash> IndexSet<T> {
     pub fn len(&self) -> usize {
-        self.0.len()
+        self.things.len()
     }
 
     pub fn is_empty(&self) -> bool {
-        self.0.is_empty()
+        self.things.is_empty()
     }
 
     pub fn truncate(&mut self, length: usize) {
-        self.0.truncate(length)
+        self.things.truncate(length);
+        self.firsts.retain(|_, first| *first < length);
     }
 
     pub fn reserve(&mut self, more: usize) {
-        self.0.reserve(more)
+        self.things.reserve(more);
+        self.firsts.reserve(more);
     }
 
     pub fn iter(&self) -> std::slice::Iter<'_, T> {
-        self.0.iter()
+        self.things.iter()
     }
 
     pub fn insert_full(&mut self, thing: T) -> (usize, bool) {
-        match self.0.iter().position(|held| *held == thing) {
+        let new = self.things.len();
+        let hash = self.hashes.hash_one(&thing);
+        let first = *self.firsts.entry(hash).or_insert(new);
+        let held = match first {
+            _ if first == new => None,
+            _ if self.things[first] == thing => Some(first),
+            // Another thing has the same 64 bits, which hardly ever is.
+            _ => self.things.iter().position(|held| *held == thing),
+        };
+        match held {
             Some(index) => (index, false),
             None => {
-                self.0.push(thing);
-                (self.0.len() - 1, true)
+                self.things.push(thing);
+                (new, true)
             }
         }
     }
@@ -101,7 +145,7 @@ impl<T> std::ops::Index<usize> for IndexSet<T> {
     type Output = T;
 
     fn index(&self, index: usize) -> &T {
-        &self.0[index]
+        &self.things[index]
     }
 }
 
@@ -110,7 +154,7 @@ impl<'a, T> IntoIterator for &'a IndexSet<T> {
     type IntoIter = std::slice::Iter<'a, T>;
 
     fn into_iter(self) -> Self::IntoIter {
-        self.0.iter()
+        self.things.iter()
     }
 }
 
@@ -119,6 +163,6 @@ impl<T> IntoIterator for IndexSet<T> {
     type IntoIter = std::vec::IntoIter<T>;
 
     fn into_iter(self) -> Self::IntoIter {
-        self.0.into_iter()
+        self.things.into_iter()
     }
 }
