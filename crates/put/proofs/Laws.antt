@@ -1,7 +1,7 @@
 -- What is left to write makes the same of the room as the whole does: byte by byte, and one run of bytes after another. Assumes nothing.
 use Prim.Native.Nat.{_%_}
 use lib.Seq.{drop-cons}
-use Rattle.rules.proofs.Prelude.{_≡_, List, [], _∷_, _++_, ℕ, zero, suc, _+_, _-_, _/_, _≤_, _<_, add-one, arith, length, take, drop, getD, set, sets}
+use Rattle.rules.proofs.Prelude.{_≡_, refl, ap, _∙_, List, [], _∷_, _++_, ℕ, zero, suc, _+_, _-_, _/_, _≤_, _<_, add-one, arith, length, take, drop, getD, set, sets}
 use Rattle.width.specs.Width.{bytesOf}
 
 -- COPIES, byte by byte
@@ -43,3 +43,18 @@ sets-append l i [] ws = let e : i + 0 ≡ i = omega arith in rw e
 sets-append l i (a ∷ vs) ws =
     let e : i + suc (length vs) ≡ suc i + length vs = omega arith in
     rw e (sets-append (set l i a) (suc i) vs ws)
+
+-- TWO RUNS that stand apart may be written in either order
+set-apart : (l : List ℕ) (i j a b : ℕ) → i < j → set (set l j b) i a ≡ set (set l i a) j b
+set-apart [] i j a b p = refl
+set-apart (x ∷ l) i zero a b p = absurd (omega arith)
+set-apart (x ∷ l) zero (suc j) a b p = refl
+set-apart (x ∷ l) (suc i) (suc j) a b p = ap (λ (t : List ℕ). x ∷ t) (set-apart l i j a b (omega arith))
+
+one-apart : (l : List ℕ) (i j a : ℕ) (vs : List ℕ) → i < j → set (sets l j vs) i a ≡ sets (set l i a) j vs
+one-apart l i j a [] p = refl
+one-apart l i j a (v ∷ vs) p = one-apart (set l j v) i (suc j) a vs (omega arith) ∙ rw (set-apart l i j a v p)
+
+pub sets-apart : (l : List ℕ) (i j : ℕ) (us vs : List ℕ) → i + length us ≤ j → sets (sets l j vs) i us ≡ sets (sets l i us) j vs
+sets-apart l i j [] vs p = refl
+sets-apart l i j (u ∷ us) vs p = rw (one-apart l i j u vs (omega arith)) (sets-apart (set l i u) (suc i) j us vs (omega arith))

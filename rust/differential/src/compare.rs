@@ -20,7 +20,8 @@
 //! listing says. The listing has the same ids and starts, and each child's own length as the Rust
 //! tells it, or is refused with 43 for a child that the Rust refuses: [`listing`](crate::listing) has
 //! that. Each child is read as a value, and [`values`](crate::values) has what must agree of that. Of
-//! a value as a whole tree, [`tree`](crate::tree) has it, and [`path`](crate::path) of a path into one.
+//! a value as a whole tree, [`tree`](crate::tree) has it, [`path`](crate::path) of a path into one, and
+//! [`writing`](crate::writing) of a dictionary that is written.
 //!
 //! Of our own answers besides: each function gives the same refusal; an accepted layer's numbers
 //! are those of its header; a lookup's id is that of its field; words after a listing, and all words
@@ -43,6 +44,7 @@ use crate::tally::Tally;
 use crate::tree::Whole;
 use crate::values::Readings;
 use crate::walk::Walk;
+use crate::writing::Writing;
 use crate::{Input, LARGE, shown};
 use lichenhusk::{LIMIT, OK, Strip};
 use parquet_variant::{Variant, VariantMetadata, VariantObject};
@@ -134,6 +136,9 @@ pub struct Known<'d> {
 
 /// Compares all that can be asked of an input.
 pub fn input(reader: &impl Reader, input: &Input, tally: &mut Tally) -> Compared {
+    if let Some(given) = &input.names {
+        return Writing { reader, given }.compare(tally);
+    }
     let known = dictionary(reader, &input.dict, tally)?;
     match (&input.tree, &input.path) {
         (value, Some(text)) => {

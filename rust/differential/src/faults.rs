@@ -2,7 +2,9 @@
 
 use crate::LARGE;
 use crate::compare::bad_offsets;
+use crate::given::Given;
 use crate::many::bad_ends;
+use crate::miswriting::{Lent, Miswriting};
 use crate::ours::{Reader, absent, accepted, found, refused, refused_at};
 use crate::reading::{BINARY, ObjectParts, PAYLOADS, STRING, own_length};
 use crate::reference::{Tree, Twist};
@@ -380,10 +382,102 @@ pub enum Fault {
     LowWordOnly,
     /// Finds a field whose name begins with the one that is looked for.
     FindsBeginnings,
+    /// Writes the empty dictionary, whatever names are given.
+    AlwaysEmpty,
+    /// Leaves the greatest of several names out.
+    DropsLastName,
+    /// Leaves a name of no bytes out.
+    DropsEmptyNames,
+    /// Writes a name as often as it is given.
+    KeepsDoubles,
+    /// Drops a name that is given again only where it is given twice in a row.
+    DropsNeighboursAlone,
+    /// Takes names for the same that begin with the same eight bytes.
+    DoublesByEightBytes,
+    /// Writes names in the order in which they are given.
+    LeavesTheOrder,
+    /// Writes shorter names before longer ones.
+    SortsByLength,
+    /// Writes names from the greatest to the least.
+    SortsBackwards,
+    /// Takes bytes for signed in the order of names.
+    SortsSigned,
+    /// Has names in the order of their 16-bit units.
+    SortsByUnits,
+    /// Leaves the bit out that says sorted.
+    SaysUnsorted,
+    /// Sets the bit 0x20.
+    SetsSpareBit,
+    /// Writes 01 00 00 for no names, as the Rust's builder does.
+    EmptyAsTheRust,
+    /// Takes the width of the count alone.
+    WidthOfCount,
+    /// Takes the width of the names as they are given, doubles counted.
+    WidthOfGiven,
+    /// Takes a byte more for each number than is needed.
+    WidthOneMore,
+    /// Writes numbers with their highest byte first.
+    HighestFirstInNumbers,
+    /// Answers how many names are given, doubles counted.
+    CountOfGiven,
+    /// Answers how many names are written in two bytes.
+    WrittenCountOfTwoBytes,
+    /// Answers the room's length.
+    LengthOfRoom,
+    /// Answers the length of the names alone.
+    LengthOfNames,
+    /// Answers the length in two bytes.
+    LengthOfTwoBytes,
+    /// Writes names that are not UTF-8.
+    TakesAnyNames,
+    /// Looks whether the names are UTF-8 one after another, not each by itself.
+    ChecksWholeRun,
+    /// Says 45 of bytes after the last end that are not UTF-8.
+    ChecksTheRest,
+    /// Takes the bytes after the last end for a part of the last name.
+    TakesTheRest,
+    /// Takes a name whose end falls for one of no bytes.
+    TakesFallingEnds,
+    /// Takes a name whose end passes the run for one up to its end.
+    TakesPassingEnds,
+    /// Says 45 at the last bad name.
+    LastBadName,
+    /// Counts names from 1 in 45's place.
+    NamesFromOne,
+    /// Says 45 at the first bad end before it looks at texts.
+    EndsBeforeTexts,
+    /// Says 10 of a run over the limit before 45.
+    LimitBeforeNames,
+    /// Says 46 before 45.
+    RoomBeforeNames,
+    /// Says 46 before 10.
+    RoomBeforeLimit,
+    /// Says 10 where the names as they are given pass the limit.
+    LimitOfGiven,
+    /// Refuses a dictionary of just as many bytes as the limit.
+    LimitOneLess,
+    /// Writes one of a byte more.
+    LimitOneMore,
+    /// Says 46 where there is just as much room as is needed.
+    WantsAByteMore,
+    /// Writes as much as there is room for under 46.
+    FillsShortRoom,
+    /// Writes a header under 45.
+    WritesBadNames,
+    /// Writes a byte after the dictionary.
+    WritesOneAfter,
+    /// Clears what comes after the dictionary.
+    ClearsTheRoom,
+    /// Says 46 where scratch is too little.
+    RefusesWithoutScratch,
+    /// Writes to scratch that is too little.
+    WritesShortScratch,
+    /// Takes what scratch held before for the order of the names.
+    TrustsOrder,
 }
 
 /// Every fault.
-pub const ALL: [Fault; 184] = [
+pub const ALL: [Fault; 230] = [
     Fault::AlwaysShort,
     Fault::AbsentIsFound,
     Fault::AlwaysAbsent,
@@ -568,6 +662,52 @@ pub const ALL: [Fault; 184] = [
     Fault::ChecksToElement,
     Fault::LowWordOnly,
     Fault::FindsBeginnings,
+    Fault::AlwaysEmpty,
+    Fault::DropsLastName,
+    Fault::DropsEmptyNames,
+    Fault::KeepsDoubles,
+    Fault::DropsNeighboursAlone,
+    Fault::DoublesByEightBytes,
+    Fault::LeavesTheOrder,
+    Fault::SortsByLength,
+    Fault::SortsBackwards,
+    Fault::SortsSigned,
+    Fault::SortsByUnits,
+    Fault::SaysUnsorted,
+    Fault::SetsSpareBit,
+    Fault::EmptyAsTheRust,
+    Fault::WidthOfCount,
+    Fault::WidthOfGiven,
+    Fault::WidthOneMore,
+    Fault::HighestFirstInNumbers,
+    Fault::CountOfGiven,
+    Fault::WrittenCountOfTwoBytes,
+    Fault::LengthOfRoom,
+    Fault::LengthOfNames,
+    Fault::LengthOfTwoBytes,
+    Fault::TakesAnyNames,
+    Fault::ChecksWholeRun,
+    Fault::ChecksTheRest,
+    Fault::TakesTheRest,
+    Fault::TakesFallingEnds,
+    Fault::TakesPassingEnds,
+    Fault::LastBadName,
+    Fault::NamesFromOne,
+    Fault::EndsBeforeTexts,
+    Fault::LimitBeforeNames,
+    Fault::RoomBeforeNames,
+    Fault::RoomBeforeLimit,
+    Fault::LimitOfGiven,
+    Fault::LimitOneLess,
+    Fault::LimitOneMore,
+    Fault::WantsAByteMore,
+    Fault::FillsShortRoom,
+    Fault::WritesBadNames,
+    Fault::WritesOneAfter,
+    Fault::ClearsTheRoom,
+    Fault::RefusesWithoutScratch,
+    Fault::WritesShortScratch,
+    Fault::TrustsOrder,
 ];
 
 impl Fault {
@@ -598,7 +738,13 @@ impl Fault {
 
     /// Whether it is one of paths, which [`spelling`](crate::spelling) and [`walk`](crate::walk) have.
     pub fn is_of_paths(self) -> bool {
-        self as usize >= Fault::KeepsBackslashes as usize
+        let of_paths = Fault::KeepsBackslashes as usize..=Fault::FindsBeginnings as usize;
+        of_paths.contains(&(self as usize))
+    }
+
+    /// Whether it is one of a dictionary that is written, which [`miswriting`](crate::miswriting) has.
+    pub fn is_of_writing(self) -> bool {
+        self as usize >= Fault::AlwaysEmpty as usize
     }
 
     /// How many levels it lets a tree have.
@@ -1155,5 +1301,24 @@ impl<R: Reader> Reader for Faulty<R> {
             fault: Some(self.fault),
         };
         walk.answer(names, words)
+    }
+
+    fn write_dictionary(
+        &self,
+        run: &[u8],
+        ends: &[u32],
+        order: &mut [u32],
+        spare: &mut [u32],
+        room: &mut [u8],
+    ) -> Strip {
+        if !self.fault.is_of_writing() {
+            return self.reader.write_dictionary(run, ends, order, spare, room);
+        }
+        let given = Given {
+            run: run.to_vec(),
+            ends: ends.to_vec(),
+        };
+        let fault = Some(self.fault);
+        Miswriting { fault }.answer(&given, Lent { order, spare, room })
     }
 }

@@ -3,11 +3,12 @@
 //! [`compare`] says what must agree, [`listing`] of a listing, [`many`] of many names at once and
 //! [`values`] of a value that is read; [`tree`] has what must agree of a whole tree, by a [`reference`]
 //! and by the Rust but for what is [`otherwise`] there; [`path`] of a path into a value, by a
-//! [`spelling`] of its text and a [`walk`], and by the Rust. [`ours`] and [`original`] are the two sides,
-//! and [`lengths`] has what the Rust tells of children's lengths; [`fixed`], [`exhaustive`],
-//! [`children`], [`extremes`], [`long_names`], [`generate`], [`large`], [`trees`], [`paths`] and
-//! [`damage`] make the inputs; [`run`] goes through them, counting in a [`tally`], and has [`shrink`] make an input
-//! that disagrees as small as it can.
+//! [`spelling`] of its text and a [`walk`], and by the Rust; [`writing`] of a dictionary that is written
+//! of the names that are [`given`]. [`ours`] and [`original`] are the two sides, and [`lengths`] has what
+//! the Rust tells of children's lengths; [`fixed`], [`exhaustive`], [`children`], [`extremes`],
+//! [`long_names`], [`generate`], [`large`], [`trees`], [`paths`], [`sets`] and [`damage`] make the
+//! inputs; [`run`] goes through them, counting in a [`tally`], and has [`shrink`] make an input that
+//! disagrees as small as it can. [`faults`] are wrong readers, some of them by [`miswriting`].
 //! [`replay`] writes answers of the Rust's down, to be asked again where it is not at hand.
 
 pub mod children;
@@ -19,11 +20,13 @@ pub mod extremes;
 pub mod faults;
 pub mod fixed;
 pub mod generate;
+pub mod given;
 pub mod large;
 pub mod lengths;
 pub mod listing;
 pub mod long_names;
 pub mod many;
+pub mod miswriting;
 pub mod original;
 pub mod otherwise;
 pub mod ours;
@@ -34,6 +37,7 @@ pub mod reading;
 pub mod reference;
 pub mod replay;
 pub mod run;
+pub mod sets;
 pub mod shrink;
 pub mod spelling;
 pub mod tally;
@@ -41,6 +45,9 @@ pub mod tree;
 pub mod trees;
 pub mod values;
 pub mod walk;
+pub mod writing;
+
+use given::Given;
 
 /// A dictionary or an object of more bytes is a large one: its places take more than two bytes.
 pub const LARGE: usize = 65_536;
@@ -58,6 +65,8 @@ pub struct Input {
     pub path: Option<Vec<u8>>,
     /// A name to look for beside those that the two suggest.
     pub query: Option<Vec<u8>>,
+    /// Names of which a dictionary is written. Where there are some, nothing else is asked.
+    pub names: Option<Given>,
 }
 
 impl Input {
@@ -95,11 +104,20 @@ impl Input {
         }
     }
 
+    /// Names of which a dictionary is written.
+    pub fn names(names: Given) -> Input {
+        Input {
+            names: Some(names),
+            ..Input::default()
+        }
+    }
+
     /// How many bytes there are in all.
     pub fn size(&self) -> usize {
         let length = |bytes: &Option<Vec<u8>>| bytes.as_ref().map_or(0, Vec::len);
         let parts = [&self.object, &self.tree, &self.path, &self.query].map(length);
-        self.dict.len() + parts.iter().sum::<usize>()
+        let names = self.names.as_ref().map_or(0, Given::size);
+        self.dict.len() + parts.iter().sum::<usize>() + names
     }
 }
 

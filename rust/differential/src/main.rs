@@ -1,5 +1,5 @@
-//! The command: `differential short`, `differential long`, `differential trees`, `differential paths` or
-//! `differential replay LINES`.
+//! The command: `differential short`, `differential long`, `differential trees`, `differential paths`,
+//! `differential writing` or `differential replay LINES`.
 
 use differential::faults::{ALL, Fault, Faulty};
 use differential::ours::Archive;
@@ -14,6 +14,7 @@ usage: differential short [--seed N]
        differential long [--seed N] [--inputs N] [--minutes N]
        differential trees [--seed N] [--inputs N] [--minutes N]
        differential paths [--seed N] [--inputs N] [--minutes N]
+       differential writing [--seed N] [--inputs N] [--minutes N]
        differential replay LINES [--seed N]";
 
 /// How long an input that disagrees is made smaller.
@@ -36,6 +37,9 @@ fn main() -> ExitCode {
         }
         ["paths", ref options @ ..] => {
             read(options).map(|options| long_run(paths(&options), &options))
+        }
+        ["writing", ref options @ ..] => {
+            read(options).map(|options| long_run(writing(&options), &options))
         }
         ["replay", lines, ref options @ ..] => emit(lines, options),
         _ => None,
@@ -87,6 +91,7 @@ fn short(options: &Options) -> Settings {
         large: 60,
         trees: 20_000,
         paths: 40_000,
+        written: 40_000,
         part: Part::All,
         every: 3,
         telling: 7,
@@ -102,6 +107,7 @@ fn long(options: &Options) -> Settings {
         large: 6_000,
         trees: 1_000_000,
         paths: 1_000_000,
+        written: 1_000_000,
         part: Part::All,
         every: 3,
         telling: 8,
@@ -124,6 +130,15 @@ fn paths(options: &Options) -> Settings {
     Settings {
         paths: options.inputs,
         part: Part::Paths,
+        ..long(options)
+    }
+}
+
+/// Dictionaries that are written alone, as many as there would be inputs.
+fn writing(options: &Options) -> Settings {
+    Settings {
+        written: options.inputs,
+        part: Part::Writing,
         ..long(options)
     }
 }

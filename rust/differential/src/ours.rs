@@ -38,6 +38,16 @@ pub trait Reader {
         names: &mut [u8],
         words: &mut [u32],
     ) -> Strip;
+    /// How many names a dictionary has that is written to the room, and its length as the end; the two
+    /// rows of words are scratch.
+    fn write_dictionary(
+        &self,
+        run: &[u8],
+        ends: &[u32],
+        order: &mut [u32],
+        spare: &mut [u32],
+        room: &mut [u8],
+    ) -> Strip;
 }
 
 /// The archive itself.
@@ -93,6 +103,17 @@ impl Reader for Archive {
         words: &mut [u32],
     ) -> Strip {
         filled(|strip| raw::path(dict, value, path, names, words, strip))
+    }
+
+    fn write_dictionary(
+        &self,
+        run: &[u8],
+        ends: &[u32],
+        order: &mut [u32],
+        spare: &mut [u32],
+        room: &mut [u8],
+    ) -> Strip {
+        filled(|strip| raw::write_dictionary(run, ends, order, spare, room, strip))
     }
 }
 

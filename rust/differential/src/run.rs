@@ -7,12 +7,13 @@ use crate::exhaustive::{
 };
 use crate::fixed::{self, SORTED, UNSORTED};
 use crate::generate::good;
+use crate::given::Given;
 use crate::long_names;
 use crate::ours::Reader;
 use crate::random::Random;
 use crate::shrink::smallest;
 use crate::tally::{Tally, grouped};
-use crate::{Input, children, extremes, large, paths, shown, trees};
+use crate::{Input, children, extremes, large, paths, sets, shown, trees};
 use std::fmt;
 use std::panic::{AssertUnwindSafe, catch_unwind};
 use std::time::{Duration, Instant};
@@ -30,6 +31,8 @@ pub struct Settings {
     pub trees: u64,
     /// How many paths are generated, of each kind, good ones and damaged ones together.
     pub paths: u64,
+    /// How many times names to write are generated, good ones and damaged ones together.
+    pub written: u64,
     /// What is gone through.
     pub part: Part,
     /// The length up to which every string of bytes is tried.
@@ -51,6 +54,8 @@ pub enum Part {
     Trees,
     /// Paths alone.
     Paths,
+    /// Dictionaries that are written alone.
+    Writing,
 }
 
 /// Damaged copies of each good input.
@@ -148,6 +153,8 @@ impl<R: Reader> Run<'_, R> {
                 self.larger_messages()?;
                 self.larger_trees()?;
                 self.larger_paths()?;
+                self.small_writing()?;
+                self.larger_writing()?;
                 self.names_and_generated()
             }
             Part::Trees => {
@@ -157,6 +164,10 @@ impl<R: Reader> Run<'_, R> {
             Part::Paths => {
                 self.small_paths()?;
                 self.larger_paths()
+            }
+            Part::Writing => {
+                self.small_writing()?;
+                self.larger_writing()
             }
         }
     }
@@ -221,6 +232,30 @@ impl<R: Reader> Run<'_, R> {
         })?;
         self.kind("paths about the limit of length", |run| {
             paths::of_length().try_for_each(|input| run.input(&input))
+        })
+    }
+
+    fn small_writing(&mut self) -> Going {
+        self.kind("names to write: worked cases, ends of widths", |run| {
+            sets::fixed().try_for_each(|input| run.input(&input))
+        })?;
+        self.kind("every row of few names to write, out of seven", |run| {
+            sets::each_row(|input| run.input(input))
+        })?;
+        self.kind("every run of telling bytes to write, few ends", |run| {
+            run.telling_runs()
+        })?;
+        self.kind("names to write generated, and damaged copies", |run| {
+            run.generated(run.settings.written, sets::good, sets::damaged)
+        })
+    }
+
+    fn larger_writing(&mut self) -> Going {
+        self.kind("many and long names to write, and damaged copies", |run| {
+            run.generated(run.settings.large / 10, sets::larger, sets::damaged)
+        })?;
+        self.kind("names to write about the limit of length", |run| {
+            sets::of_length().try_for_each(|input| run.input(&input))
         })
     }
 
@@ -386,6 +421,16 @@ impl<R: Reader> Run<'_, R> {
         })
     }
 
+    /// Every short run of telling bytes, with every row of few ends.
+    fn telling_runs(&mut self) -> Going {
+        let longest = self.settings.telling - 2;
+        (0..=longest).try_for_each(|length| {
+            each(length, &sets::TELLING, &sets::TELLING, |bytes| {
+                sets::each_ends(bytes, |given| self.input(&Input::names(given.clone())))
+            })
+        })
+    }
+
     /// Every object of some lengths and alphabets, over both dictionaries.
     fn objects(&mut self, alphabets: impl Iterator<Item = (usize, Vec<u8>, Vec<u8>)>) -> Going {
         let alphabets: Vec<_> = alphabets.collect();
@@ -455,9 +500,17 @@ impl fmt::Display for Outcome {
     }
 }
 
+/// Of more ends, the first are shown.
+const SHOWN_ENDS: usize = 64;
+
 /// An input for a reader, a line for each of its parts.
 fn lines_of(input: &Input) -> String {
     let part = |name: &str, bytes: &[u8]| format!("  {name} {}\n", shown(bytes));
+    if let Some(Given { run, ends }) = &input.names {
+        let some = &ends[..ends.len().min(SHOWN_ENDS)];
+        let ends = format!("  {} ends {some:?}\n", ends.len());
+        return part("names     ", run) + &ends;
+    }
     let mut text = part("dictionary", &input.dict);
     if let Some(object) = &input.object {
         text += &part("object    ", object);

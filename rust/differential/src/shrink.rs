@@ -5,6 +5,7 @@
 
 use crate::Input;
 use crate::encode::put;
+use crate::given::Given;
 use crate::reading::{DictionaryParts, ObjectParts, Row, list_offsets};
 use crate::reference::{is_container, rows_of};
 use crate::trees::nodes;
@@ -25,7 +26,8 @@ fn tries(size: usize) -> usize {
 /// One of the byte strings of an input.
 type Part = fn(&mut Input) -> Option<&mut Vec<u8>>;
 
-const PARTS: [Part; 5] = [
+const PARTS: [Part; 6] = [
+    |input| Some(&mut input.names.as_mut()?.run),
     |input| input.query.as_mut(),
     |input| input.path.as_mut(),
     |input| input.object.as_mut(),
@@ -40,9 +42,36 @@ struct Things {
     without: fn(&Input, Range<usize>) -> Option<Input>,
 }
 
-/// Fields, entries, and bytes of the object's region and of the dictionary's; children of a tree, and
-/// bytes anywhere in it.
-const THINGS: [Things; 6] = [
+/// Names to write with their bytes, ends of them alone, and bytes of their run; fields, entries, and
+/// bytes of the object's region and of the dictionary's; children of a tree, and bytes anywhere in it.
+const THINGS: [Things; 9] = [
+    Things {
+        count: |input| Some(input.names.as_ref()?.ends.len()),
+        without: |input, run| {
+            let given = input.names.as_ref()?;
+            let begin = run
+                .start
+                .checked_sub(1)
+                .map_or(0, |before| given.ends[before]);
+            let bytes = begin as usize..given.ends[run.end - 1] as usize;
+            given.run.get(bytes.clone())?;
+            let mut fewer = without_bytes(given, bytes);
+            fewer.ends.drain(run);
+            Some(Input::names(fewer))
+        },
+    },
+    Things {
+        count: |input| Some(input.names.as_ref()?.ends.len()),
+        without: |input, run| {
+            let mut fewer = input.names.clone()?;
+            fewer.ends.drain(run);
+            Some(Input::names(fewer))
+        },
+    },
+    Things {
+        count: |input| Some(input.names.as_ref()?.run.len()),
+        without: |input, run| Some(Input::names(without_bytes(input.names.as_ref()?, run))),
+    },
     Things {
         count: |input| Some(Apart::of_object(input.object.as_ref()?)?.ids.len()),
         without: |input, run| {
@@ -96,6 +125,17 @@ const THINGS: [Things; 6] = [
         without: |input, run| Some(with_tree(input, without_run(input.tree.as_ref()?, run))),
     },
 ];
+
+/// Names to write without some bytes of their run: the ends count on.
+fn without_bytes(given: &Given, bytes: Range<usize>) -> Given {
+    let mut fewer = given.clone();
+    fewer.run.drain(bytes.clone());
+    for end in &mut fewer.ends {
+        let gone = (*end as usize).saturating_sub(bytes.start).min(bytes.len());
+        *end -= gone as u32;
+    }
+    fewer
+}
 
 fn with_tree(input: &Input, tree: Vec<u8>) -> Input {
     Input {
@@ -274,6 +314,7 @@ impl<F: Fn(&Input) -> bool> Search<F> {
         self.change(|input| input.object = None);
         self.change(|input| input.tree = None);
         self.change(|input| input.path = None);
+        self.change(|input| input.names = None);
         self.inner();
         for things in &THINGS {
             self.fewer(things);
@@ -282,7 +323,30 @@ impl<F: Fn(&Input) -> bool> Search<F> {
             self.shorter(part);
             self.lower(part);
         }
+        self.lower_ends();
         self.input != before
+    }
+
+    /// Makes the ends of names to write smaller, of many the first: 0, half, or one less.
+    fn lower_ends(&mut self) {
+        let ends = self
+            .input
+            .names
+            .as_ref()
+            .map_or(0, |given| given.ends.len());
+        for at in 0..ends.min(FIRST) {
+            let end = self.input.names.as_ref().map_or(0, |given| given.ends[at]);
+            for smaller in [0, end / 2, end.saturating_sub(1)] {
+                let set = |input: &mut Input| {
+                    if let Some(given) = &mut input.names {
+                        given.ends[at] = smaller;
+                    }
+                };
+                if !self.in_time() || self.change(set) {
+                    break;
+                }
+            }
+        }
     }
 
     /// Takes a value inside a tree for the tree.

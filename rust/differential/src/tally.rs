@@ -81,6 +81,16 @@ pub struct Tally {
     pub paths_to_nothing: u64,
     /// Paths that the Rust reads, into values that it does not accept, or is not asked.
     pub paths_unasked: u64,
+    /// Names of which a dictionary is written as the Rust's builder does it, by our number.
+    pub written: BTreeMap<u32, u64>,
+    /// How many names are read back of these dictionaries.
+    pub written_names: u64,
+    /// The same names in another order, some of them twice, which give the same bytes.
+    pub written_again: u64,
+    /// Dictionaries in a byte of room too little or in none, refused with 46.
+    pub written_without_room: u64,
+    /// The same bytes with a word of scratch too little.
+    pub written_slowly: u64,
     /// Lookups that found what `get` yields.
     pub found: u64,
     /// Lookups that are absent where `get` yields nothing.
@@ -253,6 +263,16 @@ impl fmt::Display for Tally {
         line("  nothing by get_path, 1 or 53", self.paths_to_nothing)?;
         line("  into what the Rust does not accept", self.paths_unasked)?;
         line("paths without room, 76", self.paths_without_room)?;
+        for (number, count) in &self.written {
+            match number {
+                0 => line("dictionaries written, the builder's bytes", *count)?,
+                _ => line(&format!("dictionaries not written, {number}"), *count)?,
+            }
+        }
+        line("  their names, read back by both", self.written_names)?;
+        line("  again in another order, some twice", self.written_again)?;
+        line("  again with too little scratch", self.written_slowly)?;
+        line("  without room, 46", self.written_without_room)?;
         line("lookups found", self.found)?;
         line("lookups absent", self.absent)?;
         line(

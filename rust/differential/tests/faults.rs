@@ -3,6 +3,8 @@
 
 use differential::compare::Disagreement;
 use differential::faults::{ALL, Fault, Faulty};
+use differential::given::{Given, set_of};
+use differential::miswriting::{Lent, Miswriting};
 use differential::otherwise::Otherwise;
 use differential::ours::{Archive, Reader};
 use differential::path::Followed;
@@ -10,7 +12,8 @@ use differential::reading::Unmeasured;
 use differential::run::{Part, Settings, disagreement, run};
 use differential::tally::Tally;
 use differential::walk::Walk;
-use differential::{Input, LARGE, fixed, hex, large, paths};
+use differential::writing::Writing;
+use differential::{Input, LARGE, fixed, hex, large, paths, sets};
 use lichenhusk::{LEVELS, LIMIT, OK};
 use parquet_variant::VariantMetadata;
 use std::collections::BTreeMap;
@@ -25,6 +28,7 @@ fn small() -> Settings {
         large: 8,
         trees: 4_000,
         paths: 4_000,
+        written: 4_000,
         part: Part::All,
         every: 2,
         telling: 5,
@@ -40,6 +44,7 @@ fn told(fault: Fault) -> (Input, Disagreement) {
     };
     let part = match fault {
         _ if fault.is_of_paths() => Part::Paths,
+        _ if fault.is_of_writing() => Part::Writing,
         _ if asked_of_trees(fault).is_some() => Part::Trees,
         _ => Part::All,
     };
@@ -64,6 +69,24 @@ fn the_archive_passes() {
     values_of_every_kind_are_seen(&outcome.tally);
     trees_of_every_kind_are_seen(&outcome.tally);
     paths_of_every_kind_are_seen(&outcome.tally);
+    writing_of_every_kind_is_seen(&outcome.tally);
+}
+
+/// Dictionaries are written, in other orders and with too little scratch and room, and each refusal is
+/// seen.
+fn writing_of_every_kind_is_seen(tally: &Tally) {
+    for (number, least) in [(0, 10_000), (10, 1), (45, 10_000)] {
+        let seen = tally.written.get(&number);
+        assert!(seen.is_some_and(|&seen| seen > least), "{number}: {seen:?}");
+    }
+    for (what, seen) in [
+        ("names", tally.written_names),
+        ("again", tally.written_again),
+        ("slowly", tally.written_slowly),
+        ("without room", tally.written_without_room),
+    ] {
+        assert!(seen > 10_000, "{what}: {seen}");
+    }
 }
 
 /// Paths get every number, are read and found by the Rust, and have too little room.
@@ -177,6 +200,18 @@ fn most(fault: Fault) -> usize {
         // Lists in one another, of four bytes each, or objects, of five.
         Fault::OneLevelLess | Fault::OneLevelMore => 4 * (LEVELS + 1) + few,
         Fault::DepthAfterChecks | Fault::MarksWithoutLevels => 5 * (LEVELS + 1) + few,
+        Fault::LimitBeforeNames
+        | Fault::RoomBeforeLimit
+        | Fault::LimitOfGiven
+        | Fault::LimitOneLess
+        | Fault::LimitOneMore => LIMIT + 1 + few,
+        Fault::LengthOfTwoBytes => (1 << 16) + few,
+        // A name of as many bytes as one of them does not count.
+        Fault::WidthOfCount | Fault::HighestFirstInNumbers => (1 << 8) + few,
+        Fault::WidthOfGiven => (1 << 8) + few,
+        // Names of five bytes, and an end each.
+        Fault::WrittenCountOfTwoBytes => (5 + 4) * entries + few,
+        Fault::DoublesByEightBytes => few + 8,
         // A child of seventeen bytes, or without the last of them.
         Fault::ShortDecimals | Fault::NoUuids => few + 17,
         _ => few,
@@ -194,6 +229,8 @@ fn each_fault_is_told_by_a_small_input() {
         assert_eq!(found.asked, of_lengths.unwrap_or(&found.asked), "{fault:?}");
         let of_trees = asked_of_trees(fault);
         assert_eq!(found.asked, of_trees.unwrap_or(&found.asked), "{fault:?}");
+        let of_writing = asked_of_writing(fault);
+        assert_eq!(found.asked, of_writing.unwrap_or(&found.asked), "{fault:?}");
         let of_paths = asked_of_paths(fault);
         assert_eq!(found.asked, of_paths.unwrap_or(&found.asked), "{fault:?}");
         let of_values = asked_of_values(fault);
@@ -239,7 +276,7 @@ fn asked_of_trees(fault: Fault) -> Option<&'static str> {
         Fault::TreeBeforeDictionary => Some("a tree over a refused dictionary"),
         Fault::KeepsMarks | Fault::KeepsMarksRefused => Some("marks after a check"),
         Fault::TrustsMarks => Some("a tree's verdict with marks"),
-        _ if fault.is_of_paths() => None,
+        _ if fault.is_of_paths() || fault.is_of_writing() => None,
         _ if fault as usize >= Fault::AcceptsAnyTree as usize => Some("a tree's verdict"),
         _ => None,
     }
@@ -260,6 +297,121 @@ fn asked_of_paths(fault: Fault) -> Option<&'static str> {
             Some("the words lent for steps")
         }
         _ => fault.is_of_paths().then_some("what stands at a path"),
+    }
+}
+
+/// What tells a wrong answer to names that are to be written; nothing of another fault.
+fn asked_of_writing(fault: Fault) -> Option<&'static str> {
+    use Fault::*;
+    match fault {
+        LeavesTheOrder
+        | SortsByLength
+        | SortsBackwards
+        | SortsSigned
+        | SortsByUnits
+        | SaysUnsorted
+        | SetsSpareBit
+        | EmptyAsTheRust
+        | HighestFirstInNumbers
+        | FillsShortRoom
+        | WritesBadNames
+        | WritesOneAfter
+        | ClearsTheRoom => Some("the room for a dictionary"),
+        WritesShortScratch => Some("scratch that is too little"),
+        _ => fault
+            .is_of_writing()
+            .then_some("a dictionary that is written"),
+    }
+}
+
+/// Whether a fault of writing is one in the bytes of a dictionary.
+fn is_of_bytes(fault: Fault) -> bool {
+    let of_bytes = Fault::AlwaysEmpty as usize..=Fault::HighestFirstInNumbers as usize;
+    of_bytes.contains(&(fault as usize))
+}
+
+/// What a fault writes for names that are taken, read back by the Rust and by us.
+fn told_by_reading_back(fault: Fault) -> Option<String> {
+    let reader = Faulty {
+        reader: Archive,
+        fault,
+    };
+    let asked = |input: Input| {
+        let given = &input.names?;
+        let set = set_of(&given.texts().ok()?);
+        let mut room = vec![0; given.run.len() + 4 * given.ends.len() + 9];
+        let Given { run, ends } = given;
+        let strip = reader.write_dictionary(run, ends, &mut [], &mut [], &mut room);
+        let writing = Writing {
+            reader: &Archive,
+            given,
+        };
+        let dict = &room[..strip.end as usize];
+        let compared = writing.reads_back(dict, &set, &mut Tally::default());
+        Some(compared.err()?.asked)
+    };
+    sets::fixed().find_map(asked)
+}
+
+/// The builder's bytes are not all that tells: a wrong dictionary is not the set when it is read back,
+/// but for those that say the same in other bytes.
+#[test]
+fn faults_of_writing_without_the_builder() {
+    let same_names = [
+        Fault::SetsSpareBit,
+        Fault::WidthOfGiven,
+        Fault::WidthOneMore,
+    ];
+    for fault in ALL.into_iter().filter(|&fault| is_of_bytes(fault)) {
+        let told = told_by_reading_back(fault);
+        assert_eq!(told.is_none(), same_names.contains(&fault), "{fault:?}");
+    }
+}
+
+/// A writer without a fault passes, so that it is the fault that is told of each of the others.
+#[test]
+fn the_plain_writer_writes_what_is_due() {
+    let mut count = 0;
+    let mut same = |input: &Input| {
+        let given = input.names.as_ref().expect("names");
+        let Given { run, ends } = given;
+        let length = run.len() + 4 * ends.len() + 9;
+        for bytes in [length, 7, 0] {
+            let (mut ours, mut theirs) = (vec![7; bytes], vec![7; bytes]);
+            let strip = Archive.write_dictionary(run, ends, &mut [], &mut [], &mut ours);
+            let lent = Lent {
+                order: &mut [],
+                spare: &mut [],
+                room: &mut theirs,
+            };
+            let plain = Miswriting { fault: None }.answer(given, lent);
+            assert_eq!((strip, ours), (plain, theirs), "{given:?}");
+            count += 1;
+        }
+        Ok::<(), ()>(())
+    };
+    let small = sets::fixed().filter(|input| input.size() < LARGE);
+    small.for_each(|input| same(&input).unwrap_or_default());
+    sets::each_row(same).unwrap_or_default();
+    assert!(count > 50_000, "{count}");
+}
+
+/// What a wrong writer is told by, to the byte.
+#[test]
+fn names_that_tell() {
+    for (fault, run, ends) in [
+        (Fault::AlwaysEmpty, &b""[..], &[0][..]),
+        (Fault::DropsLastName, b"\0", &[0, 1]),
+        // The names are given again, some of them twice.
+        (Fault::KeepsDoubles, b"", &[0]),
+        (Fault::SortsByLength, b"\x01\0\0", &[1, 3]),
+        (Fault::EmptyAsTheRust, b"", &[]),
+        (Fault::ChecksWholeRun, b"\xC2\x80", &[1, 2]),
+        (Fault::TakesFallingEnds, b"\0", &[1, 0]),
+        (Fault::TakesPassingEnds, b"", &[1]),
+    ] {
+        let names = told(fault).0.names.expect("names");
+        assert_eq!((&names.run[..], &names.ends[..]), (run, ends), "{fault:?}");
     }
 }
 
@@ -329,7 +481,7 @@ fn every_fault_is_tried() {
             "in the order of the enum, none left out"
         );
     }
-    assert_eq!(Fault::FindsBeginnings as usize, ALL.len() - 1);
+    assert_eq!(Fault::TrustsOrder as usize, ALL.len() - 1);
 }
 
 /// Of very many fields, the lookup of all their names is told, which stands for the listing.
@@ -442,6 +594,16 @@ fn a_panic_is_told() {
             _: &[u8],
             _: &mut [u8],
             _: &mut [u32],
+        ) -> lichenhusk::Strip {
+            unreachable!()
+        }
+        fn write_dictionary(
+            &self,
+            _: &[u8],
+            _: &[u32],
+            _: &mut [u32],
+            _: &mut [u32],
+            _: &mut [u8],
         ) -> lichenhusk::Strip {
             unreachable!()
         }
