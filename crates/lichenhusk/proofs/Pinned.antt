@@ -6,7 +6,7 @@ use Rattle.lichenhusk.specs.Promises.{Left, Filled, PathPromise, EmptyPr
 pub strip-pinned : (strip words : List ℕ) (c c′ : ℕ) (a a′ : List ℕ) → Left strip words c a → Left strip words c′ a′ → (c ≡ c′) × (a ≡ a′)
 strip-pinned strip words c c′ a a′ l m = (l .returns ∙ sym (m .returns), l .leaves ∙ sym (m .leaves))
 
--- the listing and many names, with the words that they fill, and a tree, with its marks
+-- the listing and many names, with the words that they fill, a tree, with its marks, and what is written, with its room
 pub filled-pinned : (strip words lent filled : List ℕ) (c c′ : ℕ) (a a′ w w′ : List ℕ) → Filled strip words lent filled c a w → Filled strip words lent filled c′ a′ w′
     → (c ≡ c′) × (a ≡ a′) × (w ≡ w′)
 filled-pinned strip words lent filled c c′ a a′ w w′ p q =

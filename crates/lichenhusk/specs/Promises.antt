@@ -9,7 +9,8 @@ use Rattle.many.specs.Many.{rowsAfter}
 use Rattle.listing.specs.Words.{wordsAfter}
 use Rattle.marks.specs.Marks.{cleared}
 use Rattle.parsing.specs.Parsing.{answer, namesAfter, wordsAfter as stepsAfter}
-use Rattle.lichenhusk.specs.Strip.{lookupWords, allWords, layerWords, listWords, verdictWords, nameAtWords, valueWords, treeWords, pathWords}
+use Rattle.write.specs.Writing.{roomAfter as writtenAfter}
+use Rattle.lichenhusk.specs.Strip.{lookupWords, allWords, layerWords, listWords, verdictWords, nameAtWords, valueWords, treeWords, pathWords, writeWords}
 use Rattle.lichenhusk.specs.Strip.{returned, stripAfter, filledAfter}
 
 -- of every call that fills a strip: the words of its answer
@@ -32,7 +33,7 @@ LayerPromise d o strip = Left strip (layerWords d o)
 abbrev pub ValuePromise : List ℕ → List ℕ → ℕ → List ℕ → Type 0
 ValuePromise s strip = Left strip (valueWords s)
 
--- of a call that fills lent words, or clears lent marks: what stands in them afterwards
+-- of a call that fills lent words or room, or clears lent marks: what stands in them afterwards
 pub record Filled (strip words lent filled : List ℕ) (code : ℕ) (after lentAfter : List ℕ) : Type 0 where
   pub strip-left : Left strip words code after
   pub words-left : lentAfter ≡ filledAfter strip lent filled
@@ -52,6 +53,10 @@ pub record PathPromise (d v path names words strip : List ℕ) (code : ℕ) (aft
   pub strip-left : Left strip (pathWords d v path names words) code after
   pub names-left : names′ ≡ filledAfter strip names (namesAfter (answer path names words) names)
   pub words-left : words′ ≡ filledAfter strip words (stepsAfter (answer path names words) words)
+
+-- a dictionary that is written, and its room after it; nothing is said of scratch
+abbrev pub WritePromise : (run ends room strip : List ℕ) → ℕ → List ℕ → List ℕ → Type 0
+WritePromise run ends room strip = Filled strip (writeWords run ends room) room (writtenAfter run ends room)
 
 -- the empty dictionary, and its room after it
 pub record EmptyPromise (room : List ℕ) (code : ℕ) (after : List ℕ) : Type 0 where

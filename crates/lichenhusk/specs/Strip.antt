@@ -14,6 +14,7 @@ use Rattle.value.specs.Reading.{reading}
 use Rattle.value.specs.Answers.{valueNumbers}
 use Rattle.nodes.specs.Tree as tree
 use Rattle.path.specs.Path.{byPath}
+use Rattle.write.specs.Writing.{written}
 use Rattle.strip.specs.Shapes.{wordsOf, lookupShape, layerShape, dictionaryShape, nameShape, valueShape, treeShape, bytesOfWords, stripBytes}
 
 -- THE WORDS OF EACH CALL
@@ -45,6 +46,9 @@ treeWords d v = wordsOf treeShape (tree.verdict d v)
 abbrev pub pathWords : (d v path names words : List ℕ) → List ℕ
 pathWords d v path names words = wordsOf lookupShape (byPath d v path names words)
 
+abbrev pub writeWords : (run ends room : List ℕ) → List ℕ
+writeWords run ends room = wordsOf dictionaryShape (written run ends room)
+
 -- THE STRIP: 40, below 24 bytes, is checked first
 
 unfoldable pub returned : List ℕ → List ℕ → ℕ
@@ -53,6 +57,6 @@ returned strip words = cond (ltb (length strip) stripBytes) 40 (getD words 0 0)
 unfoldable pub stripAfter : List ℕ → List ℕ → List ℕ
 stripAfter strip words = cond (ltb (length strip) stripBytes) strip (bytesOfWords words ++ drop stripBytes strip)
 
--- and lent words that a call fills, or marks that it clears: as lent with 40
+-- and lent words or room that a call fills, or marks that it clears: as lent with 40
 unfoldable pub filledAfter : List ℕ → List ℕ → List ℕ → List ℕ
 filledAfter strip lent filled = cond (ltb (length strip) stripBytes) lent filled

@@ -1,5 +1,5 @@
 // What a host calls through C: each answer as a strip of six little-endian u32 (include/lichenhusk.h).
-ghost use Rattle.lichenhusk.specs.Promises.{LookupPromise, AllPromise, DictionaryPromise, NamePromise, LayerPromise, ListPromise, ValuePromise, TreePromise, PathPromise, EmptyPromise};
+ghost use Rattle.lichenhusk.specs.Promises.{LookupPromise, AllPromise, DictionaryPromise, NamePromise, LayerPromise, ListPromise, ValuePromise, TreePromise, PathPromise, WritePromise, EmptyPromise};
 
 // The bytes of a strip, below which the answer is 40.
 pub const STRIP: usize = 24;
@@ -139,6 +139,25 @@ pub extern "C" fn lichenhusk_path(
     }
     let six = arrivals::of_asked(path::get(dict, value, path, names, words));
     strip::write(strip, six)
+}
+
+// A sorted dictionary from names, to the front of the room: how many, 0, 0, its length. `order` and `spare` are scratch.
+#[no_mangle]
+pub extern "C" fn lichenhusk_write_dictionary(
+    run: &[u8],
+    ends: &[u32],
+    order: &mut [u32],
+    spare: &mut [u32],
+    room: &mut [u8],
+    strip: &mut [u8],
+) -> u32
+    ensures { λ r. ⌜ WritePromise (now (run .entry)) (now (ends .entry)) (now (room .entry)) (now (strip .entry)) r (now (strip .exit)) (now (room .exit)) ⌝ }
+{
+    if strip.len() < STRIP {
+        return 40;
+    }
+    let words = receipts::of_written(write::write_dictionary(run, ends, order, spare, room));
+    strip::write(strip, words)
 }
 
 // The empty dictionary: 0, or 42 below three bytes of room.

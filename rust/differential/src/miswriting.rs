@@ -84,9 +84,10 @@ impl Miswriting {
 
     /// A refusal that is given before the names are looked at.
     fn too_early(self, given: &Given, room: usize) -> Option<Strip> {
+        let is_long = given.run.len() > LIMIT && given.texts().is_err();
         match self.fault {
             Some(Fault::RoomBeforeNames) if room < 3 => Some(refused(46, 0)),
-            Some(Fault::LimitBeforeNames) if given.run.len() > LIMIT => Some(refused(10, 0)),
+            Some(Fault::LimitBeforeNames) if is_long => Some(refused(10, 0)),
             _ => None,
         }
     }

@@ -6,12 +6,14 @@
 //! Of a whole tree the Rust says that it is accepted, and how long it is, or that it is refused; for
 //! what, and of the value at which start, the [`reference`](crate::reference) says. Of a path it says for
 //! what it refuses it or, into a tree that it accepts, which value it finds, or none; where that stands,
-//! and why there is none, the [`walk`](crate::walk) says.
+//! and why there is none, the [`walk`](crate::walk) says. Of names to be written it says what its builder
+//! writes for them; which of them are no names, the library says.
 
 use crate::damage::damaged;
 use crate::extremes;
 use crate::fixed;
 use crate::generate::good;
+use crate::given::{Given, set_of};
 use crate::lengths::{FEW, Values};
 use crate::original::{
     Reasons, dictionary_number, layer_number, path_number, place_in, same_value, told, traced,
@@ -24,7 +26,8 @@ use crate::reference::Tree;
 use crate::tree::visits;
 use crate::values::said_by;
 use crate::walk::Walk;
-use crate::{Input, hex, paths, trees};
+use crate::writing::built;
+use crate::{Input, hex, paths, sets, trees};
 use lichenhusk::{ABSENT, LIMIT, OK, Strip, WORDS_PER_NAME, WORDS_PER_STEP, run_of};
 use parquet_variant::{Variant, VariantMetadata, VariantObject, VariantPath};
 use std::collections::{BTreeMap, BTreeSet};
@@ -34,10 +37,10 @@ use std::fmt;
 pub const SEED: u64 = 60;
 
 /// How many lines the repository keeps.
-pub const KEPT: usize = 3_600;
+pub const KEPT: usize = 3_900;
 
-/// One line in so many is a tree's, and one a path's.
-const SHARE: usize = 12;
+/// One line in so many is a tree's, one a path's, and one of names to be written.
+const SHARE: usize = 13;
 
 /// The longest line that is taken.
 const LONGEST: usize = 130;
@@ -64,7 +67,7 @@ const ROUNDS: usize = 200;
 
 /// So many lines at most, chosen over all answers and shapes, in order.
 pub fn lines(seed: u64, most: usize) -> Vec<String> {
-    let mut chosen = Chosen::new(most - 2 * (most / SHARE));
+    let mut chosen = Chosen::new(most - 3 * (most / SHARE));
     for input in fixed::inputs() {
         chosen.take(&input, usize::MAX);
     }
@@ -84,9 +87,12 @@ pub fn lines(seed: u64, most: usize) -> Vec<String> {
     chosen.most += most / SHARE;
     let trees = (trees::good as Good, trees::damaged as Damaged);
     chosen.take_more(&mut random, trees::fixed(), AT_FIRST, trees);
-    chosen.most = most;
+    chosen.most += most / SHARE;
     let paths = (paths::followed as Good, paths::damaged as Damaged);
     chosen.take_more(&mut random, paths::fixed(), 1, paths);
+    chosen.most = most;
+    let names = (sets::good as Good, sets::damaged as Damaged);
+    chosen.take_more(&mut random, sets::fixed(), 1, names);
     chosen.lines.into_iter().collect()
 }
 
@@ -112,7 +118,7 @@ impl Chosen {
         self.lines.len() < self.most && self.bytes + LONGEST < MOST_BYTES
     }
 
-    /// Takes trees, or paths, in rounds as the others.
+    /// Takes trees, paths, or names to be written, in rounds as the others.
     fn take_more(
         &mut self,
         random: &mut Random,
@@ -181,6 +187,8 @@ enum Says {
     Tree(Strip),
     /// A path: the strip that is due, and of its steps how many there are.
     Path(Strip, usize),
+    /// Names that are written: how many of them there are, and the dictionary.
+    Writes(usize, Vec<u8>),
     /// Refused, by our number.
     Refused(u32),
 }
@@ -211,6 +219,10 @@ impl fmt::Display for Says {
                 ABSENT => write!(to, "absent"),
                 number => write!(to, "refuses {number}"),
             },
+            Says::Writes(count, dict) => {
+                write!(to, "writes {count} {} :", dict.len())?;
+                dict.iter().try_for_each(|byte| write!(to, " {byte}"))
+            }
             Says::Refused(number) => write!(to, "refuses {number}"),
         }
     }
@@ -249,6 +261,9 @@ impl Answer {
     fn class(&self, input: &Input) -> String {
         if let Says::Path(strip, steps) = self.says {
             return path_class(strip.code, steps, input);
+        }
+        if let Some(given) = &input.names {
+            return names_class(&self.says, given);
         }
         let (dict_bits, object_bits) = match (self.kind(), &self.says) {
             ("dictionary", _) => (WIDTH | SORTED, 0),
@@ -305,6 +320,21 @@ fn path_class(code: u32, steps: usize, input: &Input) -> String {
         OK | ABSENT => format!("path {code} {} {kind:?} {marks:?}", steps.min(4)),
         70.. => format!("path {code} {marks:?}"),
         _ => format!("path {code} {} {kind:?}", steps.min(4)),
+    }
+}
+
+/// The class of names to be written: by what is answered, how many are given and how many of these are
+/// written, whether they are in order, and whether bytes come after them.
+fn names_class(says: &Says, given: &Given) -> String {
+    let count = given.ends.len().min(6);
+    let goes_on = given.run.len() > given.ends.last().map_or(0, |&end| end as usize);
+    match says {
+        Says::Writes(written, _) => {
+            let texts = given.texts().unwrap_or_default();
+            let (sorted, plain) = (texts.is_sorted(), given.run.is_ascii());
+            format!("write {count} {written} {sorted} {plain} {goes_on}")
+        }
+        _ => format!("write {says} {count} {:?} {goes_on}", given.texts().err()),
     }
 }
 
@@ -410,11 +440,40 @@ fn is_got(
     })
 }
 
+/// What is asked of names to be written: in room for their dictionary, with some to spare once in three
+/// times by their lengths; and with a byte less once in four. Of no names there is no line, since the
+/// Rust writes them otherwise.
+fn of_names(given: &Given) -> Vec<Answer> {
+    let Given { run, ends } = given;
+    let answer = |room: usize, says: Says| {
+        let ends: Vec<String> = ends.iter().map(|end| format!(" {end}")).collect();
+        let case = format!("write {} {room}{}", hex(run), ends.concat());
+        Answer { case, says }
+    };
+    let size = run.len() + ends.len();
+    let Ok(texts) = given.texts() else {
+        return vec![answer(size % 20, Says::Refused(45))];
+    };
+    if texts.is_empty() {
+        return vec![];
+    }
+    let set = set_of(&texts);
+    let dict = built(&set);
+    let more = if size.is_multiple_of(3) { size % 5 } else { 0 };
+    let short = answer(dict.len() - 1, Says::Refused(46));
+    let short = size.is_multiple_of(4).then_some(short);
+    let written = answer(dict.len() + more, Says::Writes(set.len(), dict));
+    [written].into_iter().chain(short).collect()
+}
+
 /// The Rust is asked about trees in which fewer values are met.
 const MOST_VISITS: usize = 10_000;
 
 /// All that is asked of an input, as far as it is in the domain.
 fn answers(input: &Input) -> Vec<Answer> {
+    if let Some(given) = &input.names {
+        return of_names(given);
+    }
     let dict = &input.dict;
     if let Some(value) = &input.tree {
         let answer = match &input.path {

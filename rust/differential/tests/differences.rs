@@ -5,6 +5,7 @@ use differential::encode::{self, ObjectShape, object as object_of, plain_object}
 use differential::exhaustive::{all_bytes, each};
 use differential::fixed::SORTED;
 use differential::trees::nest;
+use differential::writing::built;
 use lichenhusk::{LEVELS, LIMIT, Refusal, Value};
 use parquet_variant::{
     MAX_NESTING_DEPTH, Variant, VariantMetadata, VariantObject, VariantPath, VariantPathElement,
@@ -545,6 +546,47 @@ fn get_path_panics() {
         assert!(catch_unwind(get).is_err(), "{why}");
         assert_eq!(ours(value, text), due, "{why}");
     }
+}
+
+/// What the Rust's builder writes for names, and what we do.
+fn both_written(names: &[&str]) -> (Vec<u8>, Result<Vec<u8>, Refusal>) {
+    (built(names), lichenhusk::write_dictionary(names))
+}
+
+/// Of no names, the builder says that they are not sorted; the request says that they are. Nothing is
+/// less than no names.
+#[test]
+fn a_dictionary_of_no_names() {
+    assert_eq!(both_written(&[]), (vec![1, 0, 0], Ok(vec![0x11, 0, 0])));
+    for dict in [[1, 0, 0], [0x11, 0, 0]] {
+        assert!(VariantMetadata::try_new(&dict).is_ok_and(|theirs| theirs.is_empty()));
+        assert_eq!(
+            lichenhusk::dictionary(&dict).map(|dict| dict.entries),
+            Ok(0)
+        );
+    }
+}
+
+/// The builder keeps names in the order in which they come, and says whether that is theirs; ours
+/// sorts them. Two names are in some order, and no two have fewer bytes.
+#[test]
+fn names_that_come_in_another_order() {
+    let (theirs, ours) = both_written(&["a", ""]);
+    assert_eq!(theirs, [1, 2, 0, 1, 1, b'a']);
+    assert_eq!(ours, Ok(vec![0x11, 2, 0, 0, 1, b'a']));
+    let in_order = both_written(&["", "a"]);
+    assert_eq!(in_order, (ours.clone().unwrap_or_default(), ours));
+}
+
+/// 10: the builder has no limit of length. The longest name that we write is LIMIT - 10 bytes long.
+#[test]
+fn a_dictionary_over_the_limit() {
+    let long = "x".repeat(LIMIT - 9);
+    let (theirs, ours) = both_written(&[&long]);
+    assert_eq!(theirs.len(), LIMIT + 1);
+    assert_eq!(ours, Err(Refusal::DictionaryTooLong));
+    let (theirs, ours) = both_written(&[&long[1..]]);
+    assert_eq!((theirs.len(), Ok(theirs)), (LIMIT, ours));
 }
 
 /// Thirty-two fields that share one child, in one another so deep.

@@ -4,6 +4,7 @@
 use differential::compare::bad_offsets;
 use differential::encode::{self, DictionaryShape, ObjectShape};
 use differential::exhaustive::each;
+use differential::given::{Given, set_of};
 use differential::lengths::{FEW, Told, Values};
 use differential::long_names::beginnings;
 use differential::many::bad_ends;
@@ -16,12 +17,16 @@ use differential::spelling::{Spelling, Step, names_of, words_of};
 use differential::tally::Tally;
 use differential::tree::{children as children_of, visits};
 use differential::values::{Readings, place};
+use differential::writing::{built, dictionary_of};
 use differential::{
-    Input, LARGE, children, damage, extremes, fixed, generate, hex, large, otherwise, paths,
+    Input, LARGE, children, damage, extremes, fixed, generate, hex, large, otherwise, paths, sets,
     shrink, trees,
 };
+use indexmap::IndexSet;
+use lichenhusk::LIMIT;
 use parquet_variant::{Variant, VariantMetadata, VariantObject};
 use std::collections::BTreeSet;
+use std::hash::{Hash, Hasher};
 use std::time::Duration;
 
 #[test]
@@ -623,4 +628,162 @@ fn paths_into_trees() {
         "{names}, {indices}, {deep}"
     );
     assert!(damaged > 1_500, "{damaged}");
+}
+
+/// Which names are texts, and the first that is none: by its bytes, or by its end.
+#[test]
+fn names_as_they_are_given() {
+    let given = |run: &[u8], ends: &[u32]| Given {
+        run: run.to_vec(),
+        ends: ends.to_vec(),
+    };
+    let taken = given(b"flowrol\xFF", &[4, 4, 7]);
+    assert_eq!(taken.texts(), Ok(vec!["flow", "", "rol"]));
+    for (run, ends, place) in [
+        (&b"ab"[..], &[1, 0][..], 1),
+        (b"ab", &[1, 3], 1),
+        (b"ab", &[u32::MAX], 0),
+        (b"a\xFF", &[1, 2], 1),
+        (b"\xC3\xA9", &[0, 1, 2], 1),
+        (b"\xFFb", &[1, 0, 9], 0),
+    ] {
+        assert_eq!(given(run, ends).texts(), Err(place), "{run:?} {ends:?}");
+    }
+    assert_eq!(set_of(&["b", "", "a", "b"]), ["", "a", "b"]);
+}
+
+/// Every row of names, and every row of ends, once.
+#[test]
+fn each_row_of_names_and_of_ends_once() {
+    let mut rows = BTreeSet::new();
+    sets::each_row(|input| -> Result<(), ()> {
+        let given = input.names.as_ref().expect("names");
+        assert!(
+            rows.insert(given.texts().expect("texts").join("|") + &given.ends.len().to_string())
+        );
+        Ok(())
+    })
+    .unwrap();
+    assert_eq!(rows.len(), (0..=5).map(|length| 7_usize.pow(length)).sum());
+    let mut ends = BTreeSet::new();
+    sets::each_ends(b"ab", |given| -> Result<(), ()> {
+        assert!(ends.insert(given.ends.clone()));
+        Ok(())
+    })
+    .unwrap();
+    assert_eq!(ends.len(), 1 + 4 + 16 + 64);
+    assert!(ends.contains(&vec![3, 0, 2]), "past the run, and falling");
+}
+
+/// What is generated to be written has doubles and orders of every kind, and its damaged copies every
+/// cause to be refused.
+#[test]
+fn names_to_write_of_every_kind() {
+    let mut random = Random::seeded(3);
+    let (mut kinds, mut causes) = (BTreeSet::new(), BTreeSet::new());
+    for _ in 0..3_000 {
+        let good = sets::good(&mut random);
+        let bad = sets::damaged(&mut random, &good);
+        let good = good.names.expect("names");
+        let texts = good.texts().expect("good names are texts");
+        let set = set_of(&texts);
+        let is_long = good.run.len() > good.ends.last().map_or(0, |&end| end as usize);
+        kinds.insert(("doubles", set.len() < texts.len()));
+        kinds.insert(("sorted", texts.is_sorted()));
+        kinds.insert(("no bytes", set.contains(&"")));
+        kinds.insert(("plain", good.run.is_ascii()));
+        kinds.insert(("bytes after", is_long));
+        kinds.insert(("many", texts.len() > 255));
+        let bad = bad.names.expect("names");
+        if let Err(place) = bad.texts() {
+            let begin = place.checked_sub(1).map_or(0, |before| bad.ends[before]);
+            let end = bad.ends[place];
+            causes.insert((end < begin, end as usize > bad.run.len()));
+        }
+    }
+    assert_eq!(kinds.len(), 2 * 6, "{kinds:?}");
+    assert_eq!(causes.len(), 3, "{causes:?}");
+}
+
+/// The names about the limit make dictionaries of the lengths that they are for.
+#[test]
+fn dictionaries_about_the_limit() {
+    let mut lengths = Vec::new();
+    for input in sets::of_length() {
+        let given = input.names.expect("names");
+        lengths.push(
+            given
+                .texts()
+                .map(|texts| dictionary_of(&set_of(&texts)).len()),
+        );
+    }
+    let three = [LIMIT - 1, LIMIT, LIMIT + 1].map(Ok);
+    let due = [&three[..], &three, &three[1..], &[Err(1), Err(1)]].concat();
+    assert_eq!(lengths, due);
+}
+
+/// What the Rust's builder writes: sorted where the names come in order, and no name twice.
+#[test]
+fn what_the_builder_writes() {
+    assert_eq!(hex(&built(&["a", "b"])), "11020001026162");
+    assert_eq!(hex(&built(&["a", "b", "a"])), "11020001026162");
+    assert_eq!(hex(&built(&["b", "a"])), "01020001026261");
+    assert_eq!(hex(&dictionary_of(&[])), "110000");
+}
+
+/// Of many names to write, the two that matter are left, with their bytes as small as they may be.
+#[test]
+fn shrinks_names_to_write() {
+    let names: Vec<String> = (0..3_000).map(|number| format!("name {number}")).collect();
+    let has_both = |input: &Input| {
+        let texts = input.names.as_ref().and_then(|given| given.texts().ok());
+        let texts = texts.unwrap_or_default();
+        texts.contains(&"name 7") && texts.iter().any(|name| name.ends_with("99"))
+    };
+    let small = shrink::smallest(Input::names(Given::of(&names)), PATIENCE, has_both);
+    assert_eq!(small, Input::names(Given::of(&["name 7", "99"])));
+    let ends = Given {
+        run: b"abcdef".to_vec(),
+        ends: vec![1, 5, 3, 6],
+    };
+    let falls = |input: &Input| {
+        let ends = input.names.as_ref().map(|given| given.ends.clone());
+        ends.is_some_and(|ends| ends.is_sorted_by(|a, b| a > b) && ends.len() > 1)
+    };
+    let falling = |input: &Input| {
+        let ends = input.names.as_ref().map(|given| &given.ends[..]);
+        ends.is_some_and(|ends| ends.windows(2).any(|pair| pair[0] > pair[1]))
+    };
+    let small = shrink::smallest(Input::names(ends), PATIENCE, falling);
+    assert!(falls(&small));
+    assert_eq!(small.size(), 2 * 4, "two ends, and no byte");
+}
+
+/// A thing with the hash of every other.
+#[derive(Clone, Debug, PartialEq, Eq)]
+struct Alike(u32);
+
+impl Hash for Alike {
+    fn hash<H: Hasher>(&self, _: &mut H) {}
+}
+
+/// The stand-in for the builder's set keeps things apart that have one hash, and forgets what it is cut
+/// by.
+#[test]
+fn a_set_of_one_hash() {
+    let mut set = IndexSet::default();
+    for round in 0..2 {
+        for number in 0..5 {
+            assert_eq!(
+                set.insert_full(Alike(number)),
+                (number as usize, round == 0)
+            );
+        }
+    }
+    set.truncate(3);
+    assert_eq!(set.insert_full(Alike(4)), (3, true));
+    assert_eq!(set.insert_full(Alike(2)), (2, false));
+    set.truncate(0);
+    assert_eq!(set.insert_full(Alike(2)), (0, true));
+    assert_eq!(set.iter().count(), 1);
 }

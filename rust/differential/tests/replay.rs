@@ -24,7 +24,7 @@ fn numbers(words: &[&str]) -> Vec<u32> {
     words.iter().map(|word| number(word)).collect()
 }
 
-/// Our answer to a case, and the words that were lent for it.
+/// Our answer to a case, and the words, or the bytes, that were lent for it.
 fn ours(case: &str) -> (Strip, Vec<u32>) {
     let words: Vec<&str> = case.split(' ').collect();
     let strip = match words[..] {
@@ -48,6 +48,13 @@ fn ours(case: &str) -> (Strip, Vec<u32>) {
             let strip = Archive.lookup_all(&d, &o, &run, &numbers(ends), &mut lent);
             return (strip, lent);
         }
+        ["write", run, room, ref ends @ ..] => {
+            let (run, ends) = (bytes(run), numbers(ends));
+            let mut lent = vec![BEFORE as u8; number(room) as usize];
+            assert!(run.len().max(lent.len()) <= 256 && ends.len() <= 16);
+            let strip = Archive.write_dictionary(&run, &ends, &mut [], &mut [], &mut lent);
+            return (strip, lent.into_iter().map(u32::from).collect());
+        }
         _ => panic!("no case: {case}"),
     };
     (strip, vec![])
@@ -57,7 +64,7 @@ fn ours(case: &str) -> (Strip, Vec<u32>) {
 fn holds(case: &str, says: &str, strip: Strip, lent: &[u32]) -> bool {
     let words: Vec<&str> = says.split(' ').collect();
     let rows = match words[..] {
-        ["rows", _, _, ":", ref rows @ ..] => numbers(rows),
+        ["rows" | "writes", _, _, ":", ref rows @ ..] => numbers(rows),
         _ => vec![],
     };
     let (written, after) = lent.split_at(rows.len());
@@ -73,6 +80,7 @@ fn holds(case: &str, says: &str, strip: Strip, lent: &[u32]) -> bool {
         ["accepts" | "child", count, end] | ["rows", count, end, ":", ..] => {
             ours == [0, number(count), 0, start, number(end), 0]
         }
+        ["writes", count, length, ":", ..] => ours == [0, number(count), 0, 0, number(length), 0],
         ["at", start, end] => ours == [0, 0, 0, number(start), number(end), 0],
         ["found", field, id, start, end] => {
             ours == [0, number(field), number(id), number(start), number(end), 0]
@@ -104,7 +112,7 @@ fn kind(case: &str, says: &str) -> String {
 }
 
 /// What lines there must be.
-const KINDS: [&str; 74] = [
+const KINDS: [&str; 77] = [
     "dictionary accepts",
     "dictionary refuses 11",
     "dictionary refuses 12",
@@ -179,6 +187,9 @@ const KINDS: [&str; 74] = [
     "path refuses 73",
     "path refuses 74",
     "path refuses 75",
+    "write writes",
+    "write refuses 45",
+    "write refuses 46",
 ];
 
 #[test]

@@ -19,11 +19,14 @@ write-all-spec =
     (λ c κs. let s = c .before .before .before .before .before .before .before .before .before in
     let p = s .pre .2 in
     let w = s .args .w in
-    let names = listOf (s .args .run .now) (s .args .ends .now) in
-    (s .pre .0, s .pre .1, record {
-      offsets-fit = omega (arith, p .region-is, offsets-length w 0 names);
-      names-fit = omega (arith, p .fits, joined-length names, c .before .before .before .number .kept .1 .1 .0, length-set (s .args .room .now) 0 (lead w));
-    }))  -- write-entries-requires
+    let names = listOf (s .args .run .now) (s .args .ends .now) in (
+      s .pre .0,
+      s .pre .1,
+      record {
+        offsets-fit = omega (arith, p .region-is, offsets-length w 0 names);
+        names-fit = omega (arith, p .fits, joined-length names, c .before .before .before .number .kept .1 .1 .0, length-set (s .args .room .now) 0 (lead w));
+      },
+    ))  -- write-entries-requires
     (λ c. let a = c .before .before .before .before .before .before .before .before .before .before .before .before .args in
     c .before .before .write-entries .kept .1 .1 .1 .1 .0 ∙ c .before .before .before .before .before .before .number .kept .1 .1 .0 ∙ length-set (a .room .now) 0 (lead (a .w)))  -- same-length
     (λ c. let s = c .before .before .before .before .before .before .before .before .before .before .before .before in
