@@ -10,5 +10,6 @@ pub mod Values
 pub mod Cut
 pub mod Trees
 pub mod Paths
+pub mod Writes
 pub mod Raised
 pub mod Lengths

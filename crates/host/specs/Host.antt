@@ -35,6 +35,9 @@ use Rattle.writing.specs.Written.{total}
 use Rattle.parsing.specs.Meaning as parsing
 use Rattle.parsing.specs.ReadBack.{Laid}
 use Rattle.path.specs.Meaning.{Says}
+use Rattle.fill.specs.Bytes as fill
+use Rattle.fill.specs.Steps.{listOf}
+use Rattle.write.specs.Meaning as write
 use Rattle.strip.specs.Shapes.{refusalWords, wordsOf, lookupShape, stripBytes}
 
 -- WHAT CODE, NUMBER, ID, START, END AND PLACE SAY, call by call
@@ -105,6 +108,11 @@ pub data TreeSays (d v : List ℕ) : List ℕ → Type 0 where
 pub data PathSays (d v path names words : List ℕ) : List ℕ → Type 0 where
   says : {r : Answer} → Says d v path names words r → PathSays d v path names words (wordsOf lookupShape r)
 
+-- of a dictionary that is written: so many names, in so many bytes; or what is refused
+pub data WriteSays (run ends room : List ℕ) : List ℕ → Type 0 where
+  written : {n b : ℕ} → write.Accepted run ends room n b → WriteSays run ends room (0 ∷ n ∷ 0 ∷ 0 ∷ b ∷ 0 ∷ [])
+  refused : {c p : ℕ} → write.Refusal run ends room c p → WriteSays run ends room (refusalWords c p)
+
 -- WHAT A CALL TELLS
 
 -- word k of a strip, as the host reads it
@@ -153,3 +161,8 @@ pub record FillsSteps (path names words : List ℕ) (code : ℕ) (names′ words
 pub record EmptyTells (room : List ℕ) (code : ℕ) (after : List ℕ) : Type 0 where
   pub written : (code ≡ 0) ↔ ((3 ≤ length room) × (after ≡ emptyBytes ++ drop 3 room))
   pub no-room : (code ≡ 42) ↔ ((length room < 3) × (after ≡ room))
+
+-- the room lent for a dictionary: with 0 it is at the front and the bytes after it are as they were; with any other code all are
+pub record FillsRoom (run ends room : List ℕ) (code : ℕ) (after roomAfter : List ℕ) : Type 0 where
+  pub filled : code ≡ 0 → roomAfter ≡ fill.dictionary (listOf run ends) ++ drop (word after 4) room
+  pub kept : (code ≡ 0 → ⊥) → roomAfter ≡ room

@@ -1,6 +1,6 @@
 -- An answer is given, and each refusal with its place, exactly when document 02 says so (the types of specs/Meaning.antt). Assumes nothing.
 use Rattle.rules.proofs.Prelude.{_≡_, refl, sym, _∙_, _↔_, List, [], _∷_, ℕ, _≤_, _<_, arith, length, Found, accept, refuse, pass, stop, _&_}
-use Rattle.rules.proofs.Prelude.{Meant, by-rows, meant-then, meant-map, meant-pass, meant-stop, stops, goes, refused, answered, turned-down, let-through}
+use Rattle.rules.proofs.Prelude.{Meant, by-rows, meant-then, meant-map, meant-pass, meant-stop, stops, goes, refused, answered, turned-down, let-through, by-meaning, Answer}
 use Rattle.dictionary.specs.Limits.{limit}
 use Rattle.given.specs.Given as given
 use Rattle.given.specs.Meaning.{GoodNames}
@@ -35,6 +35,12 @@ module _ (run ends room : List ℕ) where
   pub all-pass : {n b : ℕ} → Accepted run ends room n b → checks run ends room ≡ pass
   unfolding checks
   all-pass a = goes _ (names.good run ends .1 (a .names)) ∙ laws.has-room (listOf run ends) room (a .within) (a .fits)
+
+  -- ONE WAY INTO AN ANSWER
+  pub by-answer : (P : Answer → Type 0) → ((n b : ℕ) → Accepted run ends room n b → P (accept (n ∷ b ∷ []))) → ((c p : ℕ) → Refusal run ends room c p → P (refuse c p))
+      → P (written run ends room)
+  unfolding written
+  by-answer P is-written is-refused = by-meaning P _ checks-mean (is-written _ _) is-refused
 
   -- THE THEOREMS
   pub refuses : (c p : ℕ) → (written run ends room ≡ refuse c p) ↔ Refusal run ends room c p

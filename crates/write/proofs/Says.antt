@@ -19,6 +19,7 @@ use Rattle.write.proofs.ReadBack.{ReadBack, reads-back}
 -- the room of a dictionary that was written
 pub record Holds (run ends room after : List ℕ) (bytes : ℕ) : Type 0 where
   pub is : take bytes after ≡ dictionary (listOf run ends)
+  pub size : length (take bytes after) ≡ bytes
   pub front : ReadBack run ends (take bytes after)
   pub rest : drop bytes after ≡ drop bytes room
   pub whole : length room ≤ limit → verdict after ≡ accept (length (listOf run ends) ∷ bytes ∷ [])
@@ -34,7 +35,7 @@ module _ (run ends room : List ℕ) where
   written-room a = rw (all-pass run ends room a)
 
   -- what was written, at the front; what was there, after it
-  holds : {n b : ℕ} → Accepted run ends room n b → Holds run ends room (roomAfter run ends room) b
+  pub holds : {n b : ℕ} → Accepted run ends room n b → Holds run ends room (roomAfter run ends room) b
   unfolding size
   holds {n} {b} a =
       let d = dictionary (listOf run ends) in
@@ -46,6 +47,7 @@ module _ (run ends room : List ℕ) where
       let accepted : verdict d ≡ accept (length (listOf run ends) ∷ b ∷ []) = back .accepted ∙ rw at in
       record {
         is = front;
+        size = rw front at;
         front = rw front back;
         rest = rw (is, ← at) (drop-at d rest (length d) refl);
         whole = λ short. rw is (appended d rest (long-room a short) (code accepted) (code accepted) ∙ accepted);
