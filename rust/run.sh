@@ -8,6 +8,7 @@
 #   run.sh long       millions of inputs
 #   run.sh trees      the trees of these alone
 #   run.sh paths      the paths of these alone
+#   run.sh writing    the dictionaries that are written alone
 #   run.sh replay N   answers of the Rust's, N lines at most, on standard output
 #   run.sh bench      the clock: all tables, or the one of a word
 #
@@ -94,7 +95,7 @@ case $task in
     has_source
     compare long "$@"
     ;;
-  trees | paths)
+  trees | paths | writing)
     has_cargo
     has_source
     compare "$task" "$@"
@@ -111,7 +112,7 @@ case $task in
     target/measured/bench "$@"
     ;;
   *)
-    sed -n '2,15p' run.sh | cut -c3- >&2
+    sed -n '2,16p' run.sh | cut -c3- >&2
     exit 2
     ;;
 esac

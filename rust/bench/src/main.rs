@@ -1,6 +1,7 @@
 //! The clock: check and lookup together, the found field's id, its value, UTF-8 alone, many names of
-//! one message, all of its fields, whole trees, paths, and larger messages, ours and the Rust's, in one
-//! process; and, where it is asked for, trees that are made to take long, ours alone.
+//! one message, all of its fields, whole trees, paths, dictionaries that are written, and larger messages,
+//! ours and the Rust's, in one process; and, where it is asked for, trees that are made to take long, and
+//! dictionaries of very many names, ours alone.
 //!
 //! `cargo run --profile measured -p bench`; with `-- large`, or another word of `TABLES`, that
 //! table alone
@@ -17,6 +18,7 @@ mod sides;
 mod texts;
 mod trees;
 mod values;
+mod writing;
 
 use adversarial::Taken;
 use clock::SAMPLES;
@@ -25,7 +27,7 @@ use std::process::{Command, exit};
 use std::{env, fs};
 
 /// The tables, in their order, and the word for each.
-const TABLES: [(&str, fn()); 10] = [
+const TABLES: [(&str, fn()); 11] = [
     ("lookup", lookups),
     ("ids", ids_too),
     ("values", values_read),
@@ -35,11 +37,15 @@ const TABLES: [(&str, fn()); 10] = [
     ("listing-large", || listings(&listing::LARGEST)),
     ("trees", whole_trees),
     ("paths", followed_paths),
+    ("writing", written_dictionaries),
     ("large", large_messages),
 ];
 
-/// A table that is printed only where its word is given: it may take minutes.
-const ALONE: (&str, fn()) = ("adversarial", adversarial_trees);
+/// Tables that are printed only where their word is given: they may take minutes.
+const ALONE: [(&str, fn()); 2] = [
+    ("adversarial", adversarial_trees),
+    ("writing-large", large_dictionaries),
+];
 
 /// What the columns are, to be printed above them.
 const LEGEND: &str = "\
@@ -111,6 +117,28 @@ What stands at a path: the path read, and followed into a value.
             ours does for each layer on the way
 The ratios are ours to the column before them. Each turn asks for another path, out of 256.";
 
+/// The same for the table of dictionaries that are written.
+const WRITING_LEGEND: &str = "\
+A dictionary of names, written.
+  ours      lichenhusk::write_dictionary_into: checked, sorted, each name once, in one call; the names'
+            run and ends are there before, and scratch and room are lent
+  Rust      the names, as a Vec<&str>, by sort_unstable and dedup, then WritableMetadataBuilder: each
+            name handed to it, and finish
+  builder   WritableMetadataBuilder alone, on the names sorted before, each once
+  whole     lichenhusk::write_dictionary of the same names: run, ends, scratch and room are allocated
+  /name     nanoseconds for each name that is given
+The ratios are ours, and last the column whole, to the Rust's. Names have twelve letters; each turn
+writes others. The set that the builder keeps its names in is a stand-in for indexmap's, with a table
+of the library's and its hash function.";
+
+/// The same for the table of very many names.
+const WRITING_LARGE_LEGEND: &str = "\
+Dictionaries of very many names, lichenhusk::write_dictionary_into alone: milliseconds of a call, the
+least of seven, or the one where it takes longer than two seconds; then nanoseconds for each name that
+is given. Without scratch the time grows with the names times the different ones among them: where a
+call is likely to take more than half a minute it is not made, and the time that the square of the
+names tells is printed in brackets. Names have twelve letters.";
+
 /// The same for the table of trees that are made to take long.
 const ADVERSARIAL_LEGEND: &str = "\
 Trees that are made to take long, lichenhusk::check_tree alone: milliseconds of a call, the least of
@@ -140,7 +168,8 @@ fn main() {
     let tables = tables(env::args().nth(1).as_deref());
     if tables.is_empty() {
         let words = TABLES.map(|(word, _)| word).join(", ");
-        eprintln!("the tables are {words}, and {}", ALONE.0);
+        let alone = ALONE.map(|(word, _)| word).join(" and ");
+        eprintln!("the tables are {words}, and {alone}");
         exit(2);
     }
     println!("{}", machine());
@@ -158,7 +187,7 @@ fn main() {
 
 /// The table of a word, or all of them.
 fn tables(asked: Option<&str>) -> Vec<fn()> {
-    let others = asked.map(|_| ALONE);
+    let others = asked.map(|_| ALONE).into_iter().flatten();
     TABLES
         .into_iter()
         .chain(others)
@@ -208,6 +237,69 @@ fn followed_paths() {
             ours / shallow,
         );
     }
+}
+
+/// The table of dictionaries that are written.
+fn written_dictionaries() {
+    println!("{WRITING_LEGEND}\n");
+    println!(
+        "{:<42}{:>7}{:>8}{:>12}{:>12}{:>7}{:>12}{:>7}{:>12}{:>7}{:>8}{:>8}",
+        "row",
+        "given",
+        "bytes",
+        "ours",
+        "Rust",
+        "ratio",
+        "builder",
+        "ratio",
+        "whole",
+        "ratio",
+        "/name",
+        "R/name"
+    );
+    for row in writing::rows() {
+        let [ours, theirs, builder, whole] = writing::measured(&row);
+        let a_name = |nanos: f64| nanos / row.given as f64;
+        println!(
+            "{:<42}{:>7}{:>8}{ours:>12.1}{theirs:>12.1}{:>7.2}{builder:>12.1}{:>7.2}{whole:>12.1}{:>7.2}{:>8.1}{:>8.1}",
+            row.label,
+            row.given,
+            row.bytes,
+            ours / theirs,
+            ours / builder,
+            whole / theirs,
+            a_name(ours),
+            a_name(theirs),
+        );
+    }
+}
+
+/// The table of dictionaries of very many names.
+fn large_dictionaries() {
+    println!("{WRITING_LARGE_LEGEND}\n");
+    println!(
+        "{:<42}{:>10}{:>14}{:>10}",
+        "names", "given", "ms", "ns/name"
+    );
+    writing::larger(|(count, order, has_scratch, taken)| {
+        let scratch = if *has_scratch {
+            ""
+        } else {
+            ", without scratch"
+        };
+        let label = format!("{}{scratch}", order.label());
+        match taken {
+            writing::Taken::Time(time) => println!(
+                "{label:<42}{count:>10}{:>14.3}{:>10.1}",
+                time.as_secs_f64() * 1e3,
+                time.as_secs_f64() * 1e9 / *count as f64,
+            ),
+            writing::Taken::About(time) => println!(
+                "{label:<42}{count:>10}{:>14}",
+                format!("({:.0} s)", time.as_secs_f64())
+            ),
+        }
+    });
 }
 
 /// The table of trees that are made to take long.

@@ -254,8 +254,8 @@ fn damage(random: &mut Random, Given { run, ends }: &mut Given) {
     }
 }
 
-/// Names whose dictionary has about as many bytes as the limit: one, two that are given twice, very
-/// many; and ones that pass it, of which the last is no text, or its end falls.
+/// Names whose dictionary has about as many bytes as the limit: one, two that are given twice; ones that
+/// pass it, of which the last is no text, or its end falls; and very many.
 pub fn of_length() -> impl Iterator<Item = Input> {
     let lengths = [LIMIT - 1, LIMIT, LIMIT + 1].into_iter();
     let one = lengths.clone().map(|length| {
@@ -275,8 +275,8 @@ pub fn of_length() -> impl Iterator<Item = Input> {
     let mut falls = over();
     falls.ends.push(LIMIT as u32 - 1);
     one.chain(two)
-        .chain(many)
         .chain([no_text, falls])
+        .chain(many)
         .map(Input::names)
 }
 

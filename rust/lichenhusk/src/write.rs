@@ -73,8 +73,8 @@ fn enough(names: usize, bytes: usize) -> usize {
 ///
 /// `order` and `spare` are scratch. With a word for each name in both, the time grows with the names as
 /// sorting them does, whatever their order. With fewer, none too, the answer is the same, the time
-/// grows with the square of the names, and nothing but the room is written. They may hold anything
-/// before; what they hold afterwards is not said.
+/// grows with the square of the names where they are different, and nothing but the room is written.
+/// They may hold anything before; what they hold afterwards is not said.
 ///
 /// ```
 /// use lichenhusk::{Refusal, Written, run_of, write_dictionary_into};
