@@ -156,8 +156,8 @@ pub extern "C" fn lichenhusk_write_dictionary(
     if strip.len() < STRIP {
         return 40;
     }
-    let words = receipts::of_written(write::write_dictionary(run, ends, order, spare, room));
-    strip::write(strip, words)
+    let told = receipts::of_written(write::write_dictionary(run, ends, order, spare, room));
+    strip::write(strip, told)
 }
 
 // The empty dictionary: 0, or 42 below three bytes of room.

@@ -29,7 +29,8 @@ module _ (run ends : List ℕ) where
   the-list = record { increasing = list-increasing; given = list-given; all = list-all }
 
 -- two inputs with the same set have the same list; so there is only one
-pub same-list : {run ends run′ ends′ : List ℕ} {xs ys : List (List ℕ)} → TheList run ends xs → TheList run′ ends′ ys → ((x : List ℕ) → Named run ends x → Named run′ ends′ x)
+pub same-list : {run ends run′ ends′ : List ℕ} {xs ys : List (List ℕ)} → TheList run ends xs → TheList run′ ends′ ys
+    → ((x : List ℕ) → Named run ends x → Named run′ ends′ x)
     → ((x : List ℕ) → Named run′ ends′ x → Named run ends x) → xs ≡ ys
 same-list {xs = xs} {ys = ys} p q to from =
     only-one xs ys (p .increasing) (q .increasing) (record {

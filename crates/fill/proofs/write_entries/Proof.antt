@@ -39,4 +39,6 @@ write-entries-spec =
     (λ c. let s = rw (c .before .before .before .before .before .entry .given .1) at (c .before .before .before .before .before .before .before .entry-at .ensures) in
     omega (arith, stands-inside _ _ s))  -- loop-less
     (λ c. let s = rw (c .before .before .before .before .before .entry .given .1) at (c .before .before .before .before .before .before .before .entry-at .ensures) in
-    (rw (c .before .before .copy .ensures, c .before .before .before .before .before .before .before .before .before .before .number .ensures) (fill-turn (c .before .before .before .before .before .before .before .before .before .before .before .before .loop .inv .0) (s .is-name .inside) (s .len-is) (s .bytes-are)), reached-next _ _ s)))  -- loop-again
+    let m = c .before .before .before .before .before .before .before .before .before .before in
+    let turn = fill-turn (m .before .before .loop .inv .0) (s .is-name .inside) (s .len-is) (s .bytes-are) in
+    (rw (c .before .before .copy .ensures, m .number .ensures) turn, reached-next _ _ s)))  -- loop-again

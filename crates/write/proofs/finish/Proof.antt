@@ -29,7 +29,8 @@ finish-spec =
     (a .pre .0, a .pre .1, laid s e (a .args .room .now) (omega (arith, length-is s e))))  -- write-all-requires
     (λ c. finish-stop _ (too-long _ _ (rw (c .enum-told .given .1) at (c .before .before .measure .ensures))) refl)  -- returns-3
     (λ c. c .before .before .write-all .kept .1 .1 .1 .1 .0)  -- same-length
-    (λ c. let s = rw (c .before .before .before .before .before .before .before .before .sizes .given .1) at (c .before .before .before .before .before .before .before .before .before .before .measure .ensures) in
-    let e = c .before .before .before .before .before .before .width-for .ensures in
+    (λ c. let m = c .before .before .before .before .before .before in
+    let s = rw (m .before .before .sizes .given .1) at (m .before .before .before .before .measure .ensures) in
+    let e = m .width-for .ensures in
     let n = length-is s e in
     finish-pass (omega (arith, n)) (omega (arith, n)) (s .count-is) n (c .before .before .write-all .ensures ∙ rw (layout-is s e))))  -- returns-4

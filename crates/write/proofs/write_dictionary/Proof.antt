@@ -14,10 +14,12 @@ write-dictionary-spec =
     (λ c. search needs) (λ c. search needs)  -- enum-told
     (λ c κs. let e = rw (c .before .before .enum-told .given .1) at (c .before .before .before .before .check .ensures) in
     sound _ _ (good-ends _ _ (good _ _ .0 (sym e))))  -- plan-for-requires
-    (λ c κs. let e = rw (c .before .before .before .before .before .before .before .before .before .enum-told .given .1) at (c .before .before .before .before .before .before .before .before .before .before .before .check .ensures) in
-    (good-ends _ _ (good _ _ .0 (sym e)), c .before .before .before .before .before .before .plan-for .ensures))  -- finish-requires
+    (λ c κs. let m = c .before .before .before .before .before .before in
+    let e = rw (m .before .before .before .enum-told .given .1) at (m .before .before .before .before .before .check .ensures) in
+    (good-ends _ _ (good _ _ .0 (sym e)), m .plan-for .ensures))  -- finish-requires
     (λ c. refused-name _ _ _ _ (rw (c .before .checked .given .1) at (c .before .before .before .check .ensures)))  -- returns
     (λ c. c .before .before .before .before .before .before .before .before .before .plan-for .kept .1 .1 .0)  -- same-length
     (λ c. c .before .before .before .before .before .before .before .before .before .plan-for .kept .1 .1 .1 .0)  -- same-length-2
     (λ c. c .before .before .finish .kept .1 .1 .1 .1 .0)  -- same-length-3
-    (λ c. good-names _ _ _ (rw (c .before .before .before .before .before .before .before .before .before .before .before .before .enum-told .given .1) at (c .before .before .before .before .before .before .before .before .before .before .before .before .before .before .check .ensures)) (c .before .before .finish .ensures)))  -- returns-2
+    (λ c. let m = c .before .before .before .before .before .before .before .before .before in
+    good-names _ _ _ (rw (m .before .before .before .enum-told .given .1) at (m .before .before .before .before .before .check .ensures)) (c .before .before .finish .ensures)))  -- returns-2
