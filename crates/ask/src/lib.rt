@@ -6,8 +6,9 @@ ghost use lib.ListN.{length};
 ghost use Rattle.many.specs.Many.{rowsAfter};
 ghost use Rattle.listing.specs.Words.{wordsAfter};
 ghost use Rattle.parsing.specs.Parsing.{answer, namesAfter, wordsAfter as stepsAfter};
+ghost use Rattle.write.specs.Writing.{roomAfter};
 ghost use Rattle.strip.specs.Shapes.{stripBytes};
-ghost use Rattle.lichenhusk.specs.Strip.{lookupWords, allWords, layerWords, listWords, verdictWords, nameAtWords, valueWords, treeWords, pathWords};
+ghost use Rattle.lichenhusk.specs.Strip.{lookupWords, allWords, layerWords, listWords, verdictWords, nameAtWords, valueWords, treeWords, pathWords, writeWords};
 ghost use Rattle.host.specs.Host.{wordsIn};
 ghost use Rattle.ask.specs.Numbers.{numbersOf};
 use lichenhusk::STRIP;
@@ -124,6 +125,22 @@ pub fn path(dict: &[u8], value: &[u8], path: &[u8], names: &mut [u8], words: &mu
 {
     let mut strip = [0u8; STRIP];
     lichenhusk::lichenhusk_path(dict, value, path, names, words, &mut strip);
+    read(&strip)
+}
+
+// A dictionary from names. The six words are whole for as many ends as 32 bits can number: the place of 45 is one of them.
+pub fn write_dictionary(
+    run: &[u8],
+    ends: &[u32],
+    order: &mut [u32],
+    spare: &mut [u32],
+    room: &mut [u8],
+) -> Answer
+    ensures { λ r. ⌜ (length (now (ends .entry)) ≤ 4294967296 → numbersOf r ≡ writeWords (now (run .entry)) (now (ends .entry)) (now (room .entry))) ⌝ }
+    ensures { λ _. ⌜ now (room .exit) ≡ roomAfter (now (run .entry)) (now (ends .entry)) (now (room .entry)) ⌝ }
+{
+    let mut strip = [0u8; STRIP];
+    lichenhusk::lichenhusk_write_dictionary(run, ends, order, spare, room, &mut strip);
     read(&strip)
 }
 
