@@ -1,25 +1,30 @@
 // A question on a line, and its answer:
 //
 //     dictionary D     name D N     layer D O     lookup D O NAME     list D O ROOM     all D O RUN ROOM END ..     value V     tree D V
-//     path D V PATH
+//     path D V PATH     write RUN ROOM END ..
 //
-// D, O, NAME, RUN, V and PATH are bytes in hex, `-` for none; N is an entry's number, ROOM how many words the answer may fill. RUN is the names of
-// a lookup of many, one after another, and after ROOM comes where each ends.
+// D, O, NAME, RUN, V and PATH are bytes in hex, `-` for none; N is an entry's number, ROOM how many words the answer may fill, of `write` how many
+// bytes. RUN is names, one after another, to be looked up or written, and after ROOM comes where each ends.
 ghost use Prim.Native.Nat.{_≤_};
 ghost use lib.ListN.{length};
 use ask::Answer;
 use ask::STEPS;
+use libc::STDOUT_FILENO;
 use print::room::ROOM;
 use print::room::use_library;
 use print::tell;
 use print::write_words;
 use slices::first;
+use slices::part_of;
 use text::Numeral;
 use text::hex;
 use text::number;
 use text::word;
 
 pub mod expected;
+
+// The most ends that a program has room for: so many names are sorted with scratch.
+pub const ENDS: usize = 16_384;
 
 pub enum Outcome {
     Answered(Answer),
@@ -47,7 +52,7 @@ fn reason(n: usize, room: usize) -> bool {
         2 => tell(b"a character that is no hex digit"),
         3 => word_too_long(room),
         4 => tell(
-            b"the first word is none of dictionary, name, layer, lookup, list, all, value, tree, path",
+            b"the first word is none of dictionary, name, layer, lookup, list, all, value, tree, path, write",
         ),
         5 => tell(b"a word is missing"),
         6 => tell(b"a word too many"),
@@ -59,7 +64,7 @@ fn reason(n: usize, room: usize) -> bool {
 
 fn word_too_long(room: usize) -> bool {
     tell(b"a word is");
-    use_library(room, b" bytes")
+    use_library(STDOUT_FILENO, room, b" bytes")
 }
 
 // An operand that was read: how long it is, where the text goes on, and the fault or 0.
@@ -317,7 +322,46 @@ fn numbers_at(text: &[u8], from: usize, out: &mut [u32]) -> Operand
     }
 }
 
-// ROOM and the ends, which come after RUN, and the answer.
+// ROOM, and how many ends there are.
+struct Lent {
+    fault: usize,
+    room: usize,
+    count: usize,
+}
+
+fn not_lent(fault: usize) -> Lent
+    ensures { λ r. ⌜ (r .room ≤ 0) × (r .count ≤ 0) ⌝ }
+{
+    Lent {
+        fault,
+        room: 0,
+        count: 0,
+    }
+}
+
+// ROOM, which is at most `most`, and the ends, which come after RUN.
+fn lent_at(text: &[u8], from: usize, most: usize, ends: &mut [u32]) -> Lent
+    ensures { λ r. ⌜ (r .room ≤ most) × (r .count ≤ length (now (ends .exit))) ⌝ }
+{
+    let room = number_at(text, from);
+    if room.fault != 0 {
+        return not_lent(room.fault);
+    }
+    let e = numbers_at(text, room.next, ends);
+    if e.fault != 0 {
+        return not_lent(e.fault);
+    }
+    if most < room.len {
+        return not_lent(NO_ROOM);
+    }
+    Lent {
+        fault: 0,
+        room: room.len,
+        count: e.len,
+    }
+}
+
+// The answer, once RUN was read.
 fn all_of(
     text: &[u8],
     from: usize,
@@ -327,19 +371,12 @@ fn all_of(
     ends: &mut [u32],
     words: &mut [u32],
 ) -> Outcome {
-    let room = number_at(text, from);
-    if room.fault != 0 {
-        return Outcome::NoCase(room.fault);
+    let lent = lent_at(text, from, words.len(), ends);
+    if lent.fault != 0 {
+        return Outcome::NoCase(lent.fault);
     }
-    let e = numbers_at(text, room.next, ends);
-    if e.fault != 0 {
-        return Outcome::NoCase(e.fault);
-    }
-    let k = room.len;
-    if words.len() < k {
-        return Outcome::NoCase(NO_ROOM);
-    }
-    let n = e.len;
+    let k = lent.room;
+    let n = lent.count;
     let a = ask::lookup_all(dict, object, run, &ends[0..n], &mut words[0..k]);
     if a.code == 0 {
         return Outcome::Listed {
@@ -380,7 +417,67 @@ fn all(
     )
 }
 
-// 1 to 9, or 0 for a word that asks nothing.
+// A byte as a word.
+fn word_of(b: u8) -> u32 {
+    b as u32
+}
+
+// The bytes as words, one a byte, as far as there are words, and how many that is.
+fn spread(bytes: &[u8], words: &mut [u32]) -> usize {
+    for i in 0..bytes.len() {
+        if i == words.len() {
+            return i;
+        }
+        words[i] = word_of(bytes[i]);
+    }
+    bytes.len()
+}
+
+// The dictionary of the names, once RUN was read. The words are scratch before they are the answer's.
+fn written_of(
+    text: &[u8],
+    from: usize,
+    run: &[u8],
+    room: &mut [u8],
+    ends: &mut [u32],
+    words: &mut [u32],
+) -> Outcome {
+    let lent = lent_at(text, from, words.len(), ends);
+    if lent.fault != 0 {
+        return Outcome::NoCase(lent.fault);
+    }
+    let k = lent.room;
+    if room.len() < k {
+        return Outcome::NoCase(NO_ROOM);
+    }
+    let n = lent.count;
+    let mut spare = [0u32; ENDS];
+    let a = ask::write_dictionary(run, &ends[0..n], words, &mut spare, &mut room[0..k]);
+    if a.code == 0 {
+        return Outcome::Listed {
+            answer: a,
+            filled: spread(part_of(room, 0, a.end), words),
+        };
+    }
+    Outcome::Answered(a)
+}
+
+fn written(
+    text: &[u8],
+    run: &mut [u8],
+    room: &mut [u8],
+    ends: &mut [u32],
+    words: &mut [u32],
+) -> Outcome {
+    let q = bytes_at(text, 0, run);
+    if q.fault != 0 {
+        return Outcome::NoCase(q.fault);
+    }
+    let l = q.len;
+    written_of(text, q.next, &run[0..l], room, ends, words)
+}
+
+// 1 to 10, or 0 for a word that asks nothing.
 fn kind(verb: &[u8]) -> usize {
     if check::same(verb, b"dictionary") {
         return 1;
@@ -409,6 +506,9 @@ fn kind(verb: &[u8]) -> usize {
     if check::same(verb, b"path") {
         return 9;
     }
+    if check::same(verb, b"write") {
+        return 10;
+    }
     0
 }
 
@@ -436,6 +536,7 @@ pub fn answer(
         7 => value(rest, object),
         8 => layer(rest, dict, object, true),
         9 => lookup(rest, dict, object, query, true),
+        10 => written(rest, query, object, ends, words),
         _ => Outcome::NoCase(UNKNOWN),
     }
 }

@@ -1,4 +1,6 @@
 // Questions from standard input, a line each, and their answers to standard output.
+use cases::ENDS;
+use libc::STDOUT_FILENO;
 use lines::read_line;
 use print::room::ROOM;
 use print::room::use_library;
@@ -11,7 +13,7 @@ fn answer(line: &[u8]) {
     let mut dict = [0u8; ROOM];
     let mut object = [0u8; ROOM];
     let mut query = [0u8; ROOM];
-    let mut ends = [0u32; 16384];
+    let mut ends = [0u32; ENDS];
     let mut room = [0u32; ROOM];
     let words: &mut [u32] = &mut room;
     let outcome = cases::answer(line, &mut dict, &mut object, &mut query, &mut ends, words);
@@ -22,7 +24,7 @@ fn answer(line: &[u8]) {
 fn answer_line(line: &[u8], long: bool) {
     if long {
         tell(b"? the line is");
-        use_library(LINE, b" characters");
+        use_library(STDOUT_FILENO, LINE, b" characters");
         tell(b"\n");
     } else {
         answer(line);

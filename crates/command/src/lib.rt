@@ -5,11 +5,15 @@ ghost use lib.ListN.{length};
 mod batch;
 
 use files::LENT;
+use libc::STDERR_FILENO;
+use libc::STDIN_FILENO;
+use libc::STDOUT_FILENO;
 use print::room::ROOM;
 use print::room::longer_than;
 use print::room::use_library;
 use print::say;
 use print::tell;
+use print::tell_to;
 use print::write_hex;
 use text::Numeral;
 
@@ -44,6 +48,9 @@ fn usage() {
     tell(b"       variant list DICT OBJECT         all fields\n");
     tell(
         b"       variant tree DICT VALUE          is a value accepted, with all that is inside it?\n",
+    );
+    tell(
+        b"       variant write-dictionary         the dictionary of the names on standard input, a line each\n",
     );
     tell(b"       variant batch                    answers to the lines of standard input\n");
 }
@@ -136,10 +143,21 @@ pub fn get(path: &[u8], value_path: &[u8], steps: &[u8]) {
     with_both(Wish::Get, path, value_path, steps, &[0; 0]);
 }
 
+// The bytes of the dictionary are all that goes to standard output.
+fn write_dictionary() {
+    let mut room = [0u8; ROOM];
+    let n = composed::from_input(STDIN_FILENO, STDERR_FILENO, &mut room);
+    if !io::write_all(STDOUT_FILENO, &room[0..n]) {
+        tell_to(STDERR_FILENO, b"cannot write the dictionary\n");
+    }
+}
+
 // A command of `count` words, `variant` among them; the words that are not there are empty. Those of more are `find` and `get`.
 pub fn act(count: usize, verb: &[u8], one: &[u8], two: &[u8]) {
     if count == 2 && check::same(verb, b"batch") {
         batch::run();
+    } else if count == 2 && check::same(verb, b"write-dictionary") {
+        write_dictionary();
     } else if count == 3 && check::same(verb, b"check") {
         check(one);
     } else if count == 4 && check::same(verb, b"check") {
@@ -170,7 +188,7 @@ fn too_long(count: usize) -> Names
     } else {
         tell(b"the names together are");
     }
-    use_library(ROOM, b" bytes");
+    use_library(STDOUT_FILENO, ROOM, b" bytes");
     tell(b"\n");
     Names {
         good: false,
@@ -236,7 +254,7 @@ fn argument(i: usize, out: &mut [u8]) -> Word
     if os::errno() == libc::ENAMETOOLONG {
         say(b"argument ", i);
         tell(b" is");
-        longer_than(out.len(), b" bytes");
+        longer_than(STDOUT_FILENO, out.len(), b" bytes");
         tell(b"\n");
         return Word {
             good: false,

@@ -1,10 +1,12 @@
 // A file's bytes, or why it cannot be read. What cannot be read to its end is not read.
 ghost use Prim.Native.Nat.{_≤_};
 ghost use lib.ListN.{length};
+use libc::STDOUT_FILENO;
 use print::quoted;
 use print::room::ROOM;
 use print::room::use_library;
 use print::tell;
+use print::tell_to;
 
 // What a file is read into: a byte more than a program has room for, so that a longer file is seen.
 pub const LENT: usize = ROOM + 1;
@@ -23,17 +25,17 @@ fn bad() -> File
     }
 }
 
-fn why(error: i32) {
+fn why(to: i32, error: i32) {
     if error == libc::ENOENT {
-        tell(b"there is no such file\n");
+        tell_to(to, b"there is no such file\n");
     } else if error == libc::EACCES {
-        tell(b"that is not allowed\n");
+        tell_to(to, b"that is not allowed\n");
     } else if error == libc::EISDIR {
-        tell(b"it is a folder\n");
+        tell_to(to, b"it is a folder\n");
     } else if error == libc::ENAMETOOLONG {
-        tell(b"its name is too long\n");
+        tell_to(to, b"its name is too long\n");
     } else {
-        tell(b"the system refuses\n");
+        tell_to(to, b"the system refuses\n");
     }
 }
 
@@ -46,32 +48,32 @@ fn cannot(path: &[u8]) {
 fn failed(path: &[u8]) {
     let error = os::errno();
     cannot(path);
-    why(error);
+    why(STDOUT_FILENO, error);
 }
 
-// The same of standard input, on a line of its answers.
-pub fn input_failed() {
+// The same of standard input, to `to`, after some words.
+pub fn input_failed(to: i32, before: &[u8]) {
     let error = os::errno();
-    tell(b"? cannot read standard input: ");
-    why(error);
+    tell_to(to, before);
+    tell_to(to, b"cannot read standard input: ");
+    why(to, error);
 }
 
 fn too_long(path: &[u8]) {
     cannot(path);
     tell(b"it is");
-    use_library(ROOM, b" bytes");
+    use_library(STDOUT_FILENO, ROOM, b" bytes");
     tell(b"\n");
 }
 
 // As much of the file as there is room for. A read that fails, the first or a later one, leaves nothing of it.
-fn read(fd: i32, path: &[u8], out: &mut [u8]) -> File
+fn read(fd: i32, out: &mut [u8]) -> File
     ensures { λ r. ⌜ r .len ≤ length (now (out .exit)) ⌝ }
 {
     let mut len: usize = 0;
     while len < out.len() {
         let got = libc::read(fd, &mut out[len..]);
         if got < 0 {
-            failed(path);
             return bad();
         }
         let n = io::count(got, &out[len..]);
@@ -92,11 +94,32 @@ pub fn load(path: &[u8], out: &mut [u8; LENT]) -> File
         failed(path);
         return bad();
     }
-    let file = read(fd, path, out);
+    let file = read(fd, out);
+    if !file.good {
+        failed(path);
+    }
     libc::close(fd);
     if ROOM < file.len {
         too_long(path);
         return bad();
     }
     file
+}
+
+// All of standard input, or of what is open as `fd` in its place; why it cannot be read goes to `to`.
+pub fn input(fd: i32, to: i32, out: &mut [u8; LENT]) -> File
+    ensures { λ r. do ⌜ r .len ≤ (← ⟦ROOM⟧ .entry) ⌝ }
+    ensures { λ r. ⌜ r .len ≤ length (now (out .exit)) ⌝ }
+{
+    let text = read(fd, out);
+    if !text.good {
+        input_failed(to, b"");
+    }
+    if ROOM < text.len {
+        tell_to(to, b"standard input is");
+        use_library(to, ROOM, b" bytes");
+        tell_to(to, b"\n");
+        return bad();
+    }
+    text
 }

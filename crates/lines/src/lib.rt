@@ -2,6 +2,7 @@
 ghost use Prim.Native.Nat.{_≤_};
 ghost use lib.ListN.{length};
 use libc::STDIN_FILENO;
+use libc::STDOUT_FILENO;
 
 // What was read and not yet taken: the bytes of the chunk from `at` to `have`.
 pub struct Source {
@@ -86,6 +87,11 @@ fn ended(len: usize, long: bool, last: bool, source: Source) -> Read
     }
 }
 
+// Why standard input cannot be read, on a line of its answers.
+fn failed() {
+    files::input_failed(STDOUT_FILENO, b"? ");
+}
+
 pub fn read_line(chunk: &mut [u8], line: &mut [u8], from: Source) -> Read
     ensures { λ r. ⌜ r .len ≤ length (now (line .exit)) ⌝ }
 {
@@ -98,7 +104,7 @@ pub fn read_line(chunk: &mut [u8], line: &mut [u8], from: Source) -> Read
         let n = take(chunk, source);
         match n {
             Next::Failed => {
-                files::input_failed();
+                failed();
                 return ended(0, false, true, source);
             }
             Next::End => {

@@ -1,18 +1,27 @@
-// What programs write to standard output, which promises safety only, and how much they hold.
+// What programs write, which promises safety only, and how much they hold. Where it says nothing else it goes to standard output.
 ghost use mathlib.Core.Path.{_≡_};
 
 pub mod room;
 
 use libc::STDOUT_FILENO;
 
-pub fn tell(words: &[u8]) -> bool {
-    io::write_all(STDOUT_FILENO, words)
+// Words to an open file.
+pub fn tell_to(to: i32, words: &[u8]) -> bool {
+    io::write_all(to, words)
 }
 
-// A number after some words, to standard output.
+// A number after some words, to an open file.
+pub fn say_to(to: i32, words: &[u8], n: usize) {
+    tell_to(to, words);
+    io::print_decimal(to, n as u64);
+}
+
+pub fn tell(words: &[u8]) -> bool {
+    tell_to(STDOUT_FILENO, words)
+}
+
 pub fn say(words: &[u8], n: usize) {
-    tell(words);
-    io::print_decimal(STDOUT_FILENO, n as u64);
+    say_to(STDOUT_FILENO, words, n);
 }
 
 // The bytes of `s` in hex, a space before each.

@@ -1,6 +1,7 @@
 // What stands at the end of a path, or why nothing does, as words to standard output: what is here promises safety only.
 use ask::Answer;
 use ask::STEPS;
+use libc::STDOUT_FILENO;
 use print::quoted;
 use print::room::ROOM;
 use print::say;
@@ -69,7 +70,7 @@ fn wrong_kind(names: &[u8], s: Step) -> bool {
 fn meaning(a: Answer, names: &[u8], words: &[u32]) -> bool {
     let code = a.code;
     match code {
-        20 => reasons::above_limit(b"a value on the way"),
+        20 => reasons::above_limit(STDOUT_FILENO, b"a value on the way"),
         21 => tell(b"a value on the way has no bytes"),
         53 => wrong_kind(names, step_at(words, a.place)),
         _ => reasons::meaning(code),

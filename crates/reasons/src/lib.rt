@@ -1,17 +1,20 @@
-// Why something is refused, as words to standard output: what is here promises safety only.
-use print::say;
+// Why something is refused, as words to standard output, or to `to`: what is here promises safety only.
+use libc::STDOUT_FILENO;
+use print::room::use_library;
+use print::say_to;
 use print::tell;
+use print::tell_to;
 
-// That something is longer than any that the library reads.
-pub fn above_limit(what: &[u8]) -> bool {
-    tell(what);
-    say(b" is longer than ", dictionary::LIMIT);
-    tell(b" bytes")
+// That something is longer than any that the library reads or writes.
+pub fn above_limit(to: i32, what: &[u8]) -> bool {
+    tell_to(to, what);
+    say_to(to, b" is longer than ", dictionary::LIMIT);
+    tell_to(to, b" bytes")
 }
 
 fn meaning_of_dictionary(code: usize) -> bool {
     match code {
-        10 => above_limit(b"the dictionary"),
+        10 => above_limit(STDOUT_FILENO, b"the dictionary"),
         11 => tell(b"the dictionary is empty"),
         12 => tell(b"the dictionary's version is not 1"),
         13 => tell(b"the dictionary is cut short"),
@@ -27,7 +30,7 @@ fn meaning_of_dictionary(code: usize) -> bool {
 
 fn meaning_of_object(code: usize) -> bool {
     match code {
-        20 => above_limit(b"the object"),
+        20 => above_limit(STDOUT_FILENO, b"the object"),
         21 => tell(b"the object is empty"),
         22 => tell(b"the basic type is not 2, that of an object"),
         23 => tell(b"the object is cut short"),
@@ -70,18 +73,30 @@ fn meaning_of_path(code: usize) -> bool {
     }
 }
 
+// Why no dictionary is written of names that are lines; there is room for `most` bytes.
+fn meaning_of_unwritten(to: i32, code: usize, most: usize) -> bool {
+    match code {
+        10 => above_limit(to, b"the dictionary"),
+        46 => {
+            tell_to(to, b"the dictionary is");
+            use_library(to, most, b" bytes")
+        }
+        _ => tell_to(to, b"it is not UTF-8"),
+    }
+}
+
 // Where it is, for those that have a place.
-fn write_place(code: usize, place: usize) {
+fn write_place(to: i32, code: usize, place: usize) {
     match code {
         16 | 19 => {
-            say(b" at byte ", place);
-            tell(b" of the value region");
+            say_to(to, b" at byte ", place);
+            tell_to(to, b" of the value region");
         }
-        17 | 18 => say(b" at entry ", place),
-        25..=28 | 43 => say(b" at field ", place),
-        45 => say(b" at name ", place),
-        53 => say(b" at step ", place),
-        62 => say(b" at element ", place),
+        17 | 18 => say_to(to, b" at entry ", place),
+        25..=28 | 43 => say_to(to, b" at field ", place),
+        45 => say_to(to, b" at name ", place),
+        53 => say_to(to, b" at step ", place),
+        62 => say_to(to, b" at element ", place),
         _ => {}
     }
 }
@@ -95,10 +110,14 @@ pub fn meaning(code: usize) -> bool {
     }
 }
 
+fn number_to(to: i32, code: usize, place: usize) {
+    say_to(to, b"refused ", code);
+    write_place(to, code, place);
+}
+
 // What comes before the meaning.
 pub fn number(code: usize, place: usize) {
-    say(b"refused ", code);
-    write_place(code, place);
+    number_to(STDOUT_FILENO, code, place);
     tell(b": ");
 }
 
@@ -110,4 +129,23 @@ pub fn why(code: usize, place: usize) {
 pub fn refused(code: usize, place: usize) {
     why(code, place);
     tell(b"\n");
+}
+
+// The line of a name where each has one: names are counted from 0, and lines from 1, as editors do.
+fn line_of(name: usize) -> usize {
+    if name < usize::MAX {
+        return name + 1;
+    }
+    name
+}
+
+// Of a dictionary that was to be written of names that are lines, to `to`.
+pub fn unwritten(to: i32, code: usize, place: usize, most: usize) {
+    number_to(to, code, place);
+    if code == 45 {
+        say_to(to, b", line ", line_of(place));
+    }
+    tell_to(to, b": ");
+    meaning_of_unwritten(to, code, most);
+    tell_to(to, b"\n");
 }

@@ -1,8 +1,10 @@
 // Runs `variant` on the files of data/: by the program's own arguments, then with the words of each line of `commands` as its arguments.
-// The last of these is `batch`, which answers the lines of stdin.
+// One of these is `batch`, which answers the lines of stdin; a `write-dictionary` after it finds no more of them. Before it the command has a
+// file in place of standard input.
 ghost use Prim.Native.Nat.{_≤_};
 ghost use lib.ListN.{length};
 use libc::STDOUT_FILENO;
+use print::room::ROOM;
 use text::find;
 use text::word;
 
@@ -91,6 +93,28 @@ fn get(dict: &[u8], value: &[u8], word: &[u8]) {
     }
 }
 
+// As many of the first bytes as a line shows.
+fn front(s: &[u8]) -> &[u8] {
+    let n = s.len();
+    if n < 64 {
+        return &s[0..n];
+    }
+    &s[0..64]
+}
+
+// What `write-dictionary` makes of a file, its messages among it: the first bytes in hex, and how all are read.
+fn write_dictionary(path: &[u8]) {
+    let mut room = [0u8; ROOM];
+    let fd = os::open_read(path);
+    let n = composed::from_input(fd, STDOUT_FILENO, &mut room);
+    libc::close(fd);
+    if 0 < n {
+        print::write_hex(front(&room[0..n]));
+        print::tell(b"\n");
+        sentences::check_dictionary(&room[0..n]);
+    }
+}
+
 fn act(line: &[u8]) {
     let verb = word(line, 0);
     let one = word(line, verb.end);
@@ -109,6 +133,8 @@ fn act(line: &[u8]) {
         find_names(line, f, &line[c..d], &line[e..f]);
     } else if n == 5 && check::same(&line[a..b], b"get") {
         get(&line[c..d], &line[e..f], &line[g..h]);
+    } else if n == 3 && check::same(&line[a..b], b"write-dictionary") {
+        write_dictionary(&line[c..d]);
     } else {
         command::act(n, &line[a..b], &line[c..d], &line[e..f]);
     }

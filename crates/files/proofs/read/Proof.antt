@@ -7,10 +7,10 @@ use Rattle.files.proofs.read.Statement.{statement}
 use Rattle.files.proofs.read.Tie as tie
 
 abbrev Inv-loop : tie.InvT-loop
-Inv-loop fd path out₀ len₀ out len = (length out ≡ length out₀) × (len ≤ length out)
+Inv-loop fd out₀ len₀ out len = (length out ≡ length out₀) × (len ≤ length out)
 
 abbrev μ-loop : tie.MeasureT-loop
-μ-loop fd path out₀ len₀ out len = length out₀ - len
+μ-loop fd out₀ len₀ out len = length out₀ - len
 
 pub read-spec : {M : Type 1} → statement M
 read-spec =
@@ -23,7 +23,6 @@ read-spec =
     (λ c. search needs)  -- part-read-start
     (λ c. search needs)  -- part-read-end
     (λ c κs. search needs)  -- read-requires
-    (λ c κs. search needs)  -- failed-requires
     (λ c κs. search needs)  -- bad-requires
     (λ c. search needs)  -- same-length
     (λ c. search needs)  -- returns

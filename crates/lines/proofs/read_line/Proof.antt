@@ -22,7 +22,7 @@ read-line-spec =
     (λ c. search needs)  -- sub-turns
     (λ c κs. search needs)  -- take-requires
     (λ c. search needs)  -- enum-told
-    (λ c κs. search needs)  -- input-failed-requires
+    (λ c κs. search needs)  -- failed-requires
     (λ c κs. search needs)  -- ended-requires
     (λ c. search needs)  -- same-length
     (λ c. search needs)  -- same-length-2

@@ -1,0 +1,25 @@
+-- `composed::compose` meets its contract: the parts that are written are the lines of the text and their ends. Assumes nothing.
+use Rattle.rules.proofs.Prelude.{_≡_, sym, _∙_, _≤_, arith, needs, length}
+use Rattle.composed.proofs.Laws.{of-lines}
+use Rattle.composed.proofs.compose.Statement.{statement}
+use Rattle.composed.proofs.compose.Tie as tie
+
+pub compose-spec : {M : Type 1} → statement M
+compose-spec =
+    tie.close
+    (tie.spec
+    (λ c. search needs)  -- slice-aggregate-gather
+    (λ c. search needs)  -- slice-aggregate-gather-2
+    (λ c κs. search needs)  -- gather-requires
+    (λ c. search needs)  -- sub-write-dictionary
+    (λ c. search needs)  -- part-write-dictionary-start
+    (λ c. search needs)  -- part-write-dictionary-end
+    (λ c. search needs)  -- sub-write-dictionary-2
+    (λ c. search needs)  -- part-write-dictionary-start-2
+    (λ c. search needs)  -- part-write-dictionary-end-2
+    (λ c. search needs)  -- slice-aggregate-write-dictionary
+    (λ c. search needs)  -- slice-aggregate-write-dictionary-2
+    (λ c κs. search needs)  -- write-dictionary-requires
+    (λ c. search needs)  -- same-length
+    (λ c. let w = c .before .before .before .before .write-dictionary .ensures in
+    of-lines _ (c .before .before .before .before .before .before .before .before .before .before .before .before .before .before .before .before .before .before .before .args .out .now) (c .before .before .before .before .before .before .before .before .before .before .before .before .before .before .gather .ensures .0) (omega arith) (w .0) (w .1)))  -- returns
