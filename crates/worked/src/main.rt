@@ -1,6 +1,6 @@
 // Runs the worked cases that the tables of starred cases do not prove, and the vectors of the Rust's documentation, each against the
-// answer that is expected of it. Most are lines of data/cases, `name: question = answer`; the others are in special.rt and
-// paths.rt, with their answers. A line a case: its name, the answer, and whether it is as expected.
+// answer that is expected of it. Most are lines of data/cases, `name: question = answer`; the others are in special.rt, paths.rt
+// and writes.rt, with their answers. A line a case: its name, the answer, and whether it is as expected.
 //
 // The vectors of builder.rs and of variant.rs's objects are the bytes that the Rust's builder makes in those examples.
 use libc::STDOUT_FILENO;
@@ -8,13 +8,14 @@ use libc::STDOUT_FILENO;
 mod paths;
 mod report;
 mod special;
+mod writes;
 
 use cases::Outcome;
 use tally::Tally;
 use text::find;
 
-// As many bytes as a word of the table has, and some.
-const ROOM: usize = 160;
+// As many bytes as a word of the table has, and some; and as many words as an answer of it has.
+const ROOM: usize = 320;
 
 fn judge(t: Tally, want: &[u8], outcome: Outcome, words: &[u32]) -> Tally {
     cases::write(outcome, words, ROOM);
@@ -31,7 +32,7 @@ fn answer(t: Tally, question: &[u8], want: &[u8]) -> Tally {
     let mut object = [0u8; ROOM];
     let mut query = [0u8; ROOM];
     let mut ends = [0u32; 16];
-    let mut room = [0u32; 20];
+    let mut room = [0u32; ROOM];
     let words: &mut [u32] = &mut room;
     let outcome = cases::answer(
         question,
@@ -84,5 +85,5 @@ fn run(text: &[u8]) -> Tally {
 fn main() {
     let mut text = io::large_buffer();
     let n = tally::load(b"cases", &mut text);
-    report::close(paths::run(special::run(run(&text[0..n]))));
+    report::close(writes::run(paths::run(special::run(run(&text[0..n])))));
 }
