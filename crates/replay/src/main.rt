@@ -13,8 +13,8 @@ fn agrees(question: &[u8], words: &[u8]) -> bool {
     let mut dict = [0u8; 256];
     let mut object = [0u8; 256];
     let mut query = [0u8; 256];
-    let mut ends = [0u32; 3];
-    let mut room = [0u32; 16];
+    let mut ends = [0u32; 8];
+    let mut room = [0u32; 64];
     let rows: &mut [u32] = &mut room;
     let outcome = cases::answer(
         question,

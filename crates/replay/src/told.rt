@@ -1,7 +1,7 @@
-// What the Rust says on a line, held against our six numbers, and of many names against our words, too:
+// What the Rust says on a line, held against our six numbers, and of many names and of a dictionary that is written against our words, too:
 //
 //     accepts COUNT END     child COUNT END     at START END     found FIELD ID START END     absent     refuses NUMBER     refuses NUMBER START
-//     rows COUNT END : CODE FIELD ID START END ..     reads KIND LOW HIGH
+//     rows COUNT END : CODE FIELD ID START END ..     reads KIND LOW HIGH     writes COUNT LENGTH : BYTE ..
 use ask::Answer;
 use cases::expected::ends;
 use cases::expected::has_filled;
@@ -145,12 +145,23 @@ fn rows(text: &[u8], from: usize, a: Answer, words: &[u32], n: usize) -> bool {
     has_filled(text, end.next, words, n)
 }
 
-// Of many names.
+// Whether the verb is that of such words: of many names' rows, or of a dictionary's bytes, which have no start.
+fn has_words(verb: &[u8], a: Answer) -> bool {
+    if check::same(verb, b"rows") {
+        return true;
+    }
+    if !check::same(verb, b"writes") {
+        return false;
+    }
+    a.start == 0
+}
+
+// Of many names, and of a dictionary that is written.
 pub fn agrees_rows(text: &[u8], a: Answer, words: &[u32], n: usize) -> bool {
     let verb = word(text, 0);
     let s = verb.start;
     let e = verb.end;
-    if !check::same(&text[s..e], b"rows") {
+    if !has_words(&text[s..e], a) {
         return false;
     }
     if a.id != 0 {
