@@ -609,8 +609,8 @@ uint32_t lichenhusk_path(const uint8_t *dict, size_t dict_len,
  * not said, under a refusal neither. With ends_len words or more in both, the names
  * are sorted there: the time grows as that of sorting, with n log n for n names,
  * whatever order they come in, sorted already, reversed or all equal too. With fewer
- * in either, each next name is looked for among all: nothing is written but room and
- * strip, scratch neither, and the time grows with n times the different names, with
+ * in either, each next name is looked for among all: scratch is not written then (which
+ * is tested, and not proved), and the time grows with n times the different names, with
  * the square of n where all are different.
  *
  * This makes the example's dictionary, and prints "2 names, 13 bytes":

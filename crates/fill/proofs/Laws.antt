@@ -3,8 +3,8 @@ use Prim.Native.Nat.{max}
 use native.Mathlib.Nat.{mul-suc}
 use lib.ListN.{drop-of-length-le}
 use lib.Seq.{length-sets, drop-cons, take-length}
-use Rattle.rules.proofs.Prelude.{_≡_, refl, sym, ap, _∙_, Bool, true, false, cond, List, [], _∷_, _++_, ℕ, zero, suc, _+_, _-_, _*_, _≤_, _<_, add-one, arith}
-use Rattle.rules.proofs.Prelude.{mul-le-mul-right, ltb, lt-ltb, le-ltb, length, take, drop, getD, set, sets, length-append, append-assoc}
+use Rattle.rules.proofs.Prelude.{_≡_, refl, sym, ap, _∙_, Bool, true, false, cond, List, [], _∷_, _++_, ℕ, suc, _+_, _-_, _*_, _≤_, _<_, add-one, arith}
+use Rattle.rules.proofs.Prelude.{mul-le-mul-right, ltb, lt-ltb, le-ltb, length, take, drop, getD, set, sets, length-append}
 use mathlib.Core.List.{append-nil}
 use Rattle.part.proofs.Laws.{part-length}
 use Rattle.width.specs.Width.{bytesOf}

@@ -1,14 +1,12 @@
 -- The names pass exactly when all are good, and stop with 45 at k exactly when name k is the first that is not. Assumes nothing.
-use Rattle.rules.proofs.Prelude.{_≡_, refl, sym, _∙_, _↔_, List, ℕ, _+_, _≤_, _<_, arith, length, first, each, Passed, Cases, pass, stop, _&_, Meant}
+use Rattle.rules.proofs.Prelude.{_≡_, refl, sym, _↔_, List, ℕ, arith, length, first, each, Passed, Cases, pass, stop, _&_, Meant}
 use Rattle.rules.proofs.Prelude.{by-each, by-rows, meant-map, meant-pass, meant-stop, each-pass, each-stop}
 use Rattle.rules.proofs.Laws.Meant.{all-pass, one-stops}
 use Rattle.rules.proofs.Prelude.{Found}
 use Rattle.chars.proofs.Laws.{text-whole, text-all}
-use Rattle.run.specs.declared.Ends.{Ends}
 use Rattle.run.specs.declared.Ends.the-variants as answers
-use Rattle.run.specs.Run.{begin, end, name, endRules}
+use Rattle.run.specs.Run.{end, name, endRules}
 use Rattle.run.specs.Meaning.{GoodEnds}
-use Rattle.run.specs.Promises.{foundOf}
 use Rattle.given.specs.Given.{nameRules, checks}
 use Rattle.given.specs.Meaning.{GoodName, GoodNames, BadName}
 use Rattle.given.specs.Promises.{CheckPromise}

@@ -1,6 +1,6 @@
 -- Two inputs with the same set of names give the same bytes, and where both are good the same answer and room (document 02, j); no names give
 -- 11 00 00. Assumes nothing.
-use Rattle.rules.proofs.Prelude.{_≡_, refl, sym, ap, _∙_, List, [], _∷_, ℕ, length, pass}
+use Rattle.rules.proofs.Prelude.{_≡_, refl, ap, List, [], _∷_, ℕ}
 use Rattle.width.specs.Width.{bytesOf}
 use Rattle.put.specs.Numbers.{numbers}
 use Rattle.given.specs.Given as given

@@ -1,6 +1,6 @@
 -- What the writer's last steps go by: the sizes, the answers, the room. Assumes nothing.
 use Prim.Native.Nat.{max}
-use Rattle.rules.proofs.Prelude.{_≡_, sym, _∙_, List, [], _∷_, _++_, ℕ, _+_, _*_, _≤_, _<_, mul-le-mul-right, arith, length, drop, sets, sets-eq, _&_}
+use Rattle.rules.proofs.Prelude.{_≡_, sym, _∙_, List, [], ℕ, _+_, _*_, _≤_, _<_, mul-le-mul-right, arith, length, sets, sets-eq, _&_}
 use Rattle.rules.proofs.Prelude.{refuse, pass, stop, first-at, first-pass, refused, answered, stops, goes}
 use Rattle.dictionary.specs.Limits.{limit}
 use Rattle.given.specs.Given as given

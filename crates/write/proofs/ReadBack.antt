@@ -1,7 +1,7 @@
 -- Reading back (document 02, j): what was written is accepted as a sorted dictionary of that count and length, its names by number are exactly
 -- the list, and a name is in it exactly when it was given. Assumes nothing.
-use Rattle.rules.proofs.Prelude.{_≡_, refl, sym, _∙_, true, _↔_, inl, inr, List, [], _∷_, _++_, ℕ, zero, suc, _+_, _-_, _≤_, _<_, add-zero, add-one, arith}
-use Rattle.rules.proofs.Prelude.{length, take, drop, getD, length-drop, accept, pass}
+use Rattle.rules.proofs.Prelude.{_≡_, refl, sym, _∙_, true, _↔_, inl, inr, List, [], _∷_, ℕ, zero, suc, _+_, _-_, _≤_, _<_, add-zero, add-one, arith}
+use Rattle.rules.proofs.Prelude.{length, take, drop, getD, length-drop, accept}
 use lib.Seq.{getD-drop}
 use Rattle.walk.specs.Walk.Items.{none}
 use Rattle.walk.proofs.Laws.{items-append}
@@ -16,14 +16,14 @@ use Rattle.metadata.proofs.Accepts.{accepts}
 use Rattle.run.specs.Run as run
 use Rattle.given.specs.Meaning.{GoodNames}
 use Rattle.sets.specs.Sets.{In, Increasing, total}
-use Rattle.sets.proofs.Laws.{Standing, at-in, in-at, rising, total-next, total-part}
+use Rattle.sets.proofs.Laws.{at-in, in-at, rising, total-next, total-part}
 use Rattle.fill.specs.Bytes.{widthFor, joined, layout, dictionary, size}
 use Rattle.fill.specs.Steps.{listOf}
 use Rattle.fill.proofs.Laws.{joined-length, layout-length}
 use Rattle.write.specs.Meaning.{Named}
 use Rattle.write.proofs.TheList.{the-list}
 use Rattle.write.proofs.Smallest.{Smallest, smallest}
-use Rattle.write.proofs.Readings.{joined-from, version-is, sorted-is, width-is, count-is, offset-is, start-is, end-is, end-whole, region-is, name-is}
+use Rattle.write.proofs.Readings.{joined-from, version-is, sorted-is, width-is, count-is, offset-is, start-is, end-whole, region-is, name-is}
 
 -- each is a text
 abbrev Texts : List (List ℕ) → Type 0

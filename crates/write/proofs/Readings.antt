@@ -1,7 +1,7 @@
 -- Reading what was written, number by number: width, count, offsets, region, names (the readings of `dictionary`). Assumes nothing.
-use Prim.Native.Nat.{_%_, _^_}
+use Prim.Native.Nat.{_%_}
 use lib.Seq.{drop-append-seam, take-length}
-use Rattle.rules.proofs.Prelude.{_≡_, refl, sym, _∙_, true, List, [], _∷_, _++_, append-assoc, ℕ, zero, suc, _+_, _-_, _*_, _/_, _≤_, _<_, add-one, arith}
+use Rattle.rules.proofs.Prelude.{_≡_, refl, _∙_, true, List, [], _∷_, _++_, append-assoc, ℕ, zero, suc, _+_, _-_, _*_, _/_, _≤_, _<_, add-one, arith}
 use Rattle.rules.proofs.Prelude.{eq-eqb, length, take, drop, getD, length-append, take-at, take-all, drop-append-add}
 use Rattle.part.specs.Part.{part}
 use Rattle.width.specs.Width.{bytesOf}

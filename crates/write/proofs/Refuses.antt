@@ -1,9 +1,7 @@
 -- An answer is given, and each refusal with its place, exactly when document 02 says so (the types of specs/Meaning.antt). Assumes nothing.
-use Rattle.rules.proofs.Prelude.{_≡_, refl, sym, _∙_, _↔_, List, [], _∷_, ℕ, _≤_, _<_, arith, length, Found, accept, refuse, pass, stop, _&_}
+use Rattle.rules.proofs.Prelude.{_≡_, refl, _∙_, _↔_, List, [], _∷_, ℕ, length, accept, refuse, pass, stop, _&_}
 use Rattle.rules.proofs.Prelude.{Meant, by-rows, meant-then, meant-map, meant-pass, meant-stop, stops, goes, refused, answered, turned-down, let-through, by-meaning, Answer}
-use Rattle.dictionary.specs.Limits.{limit}
 use Rattle.given.specs.Given as given
-use Rattle.given.specs.Meaning.{GoodNames}
 use Rattle.given.proofs.Means as names
 use Rattle.fill.specs.Bytes.{size}
 use Rattle.fill.specs.Steps.{listOf}

@@ -1,7 +1,7 @@
 -- The width is the smallest that holds both the count and the total length (document 02, j). Assumes nothing.
 use Prim.Native.Nat.{_^_, max}
 use native.Mathlib.Nat.{le-max-left, le-max-right, pow-le-pow-right}
-use Rattle.rules.proofs.Prelude.{_≡_, refl, Bool, true, false, cond, List, ℕ, zero, suc, _+_, _≤_, _<_, decLt, arith, ltb, ltb-true, ltb-false, length}
+use Rattle.rules.proofs.Prelude.{_≡_, refl, Bool, true, false, cond, List, ℕ, suc, _≤_, _<_, decLt, arith, ltb, ltb-true, ltb-false, length}
 use Rattle.dictionary.specs.Limits.{limit}
 use Rattle.sets.specs.Sets.{total}
 use Rattle.fill.specs.Bytes.{widthOf, widthFor, size}

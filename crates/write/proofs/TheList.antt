@@ -1,9 +1,9 @@
 -- THE list of the given names: `listOf` is increasing and has exactly the set of names, and no other list is so. Assumes nothing.
-use Rattle.rules.proofs.Prelude.{_≡_, sym, _∙_, List, ℕ, _≤_, _<_, arith, length}
+use Rattle.rules.proofs.Prelude.{_≡_, List, ℕ, arith}
 use Rattle.run.specs.Run.{name}
 use Rattle.source.specs.declared.Source.the-variants as source
 use Rattle.source.specs.Names.{nameOf, countOf}
-use Rattle.sets.specs.Sets.{In, Increasing, Numbered}
+use Rattle.sets.specs.Sets.{In, Increasing}
 use Rattle.sets.proofs.Laws.{only-one, collect-increasing, in-collect, collect-in}
 use Rattle.pick.specs.Pick as pick
 use Rattle.fill.specs.Steps.{listOf}

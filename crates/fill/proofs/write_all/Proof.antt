@@ -1,5 +1,5 @@
 -- `fill::write_all` meets its contract: the first byte, the count, and offsets and names. Assumes nothing.
-use Rattle.rules.proofs.Prelude.{_≡_, _∙_, arith, needs, length, length-set}
+use Rattle.rules.proofs.Prelude.{_∙_, arith, needs, length, length-set}
 use Rattle.fill.specs.Steps.{listOf}
 use Rattle.fill.specs.Bytes.{lead}
 use Rattle.fill.proofs.Laws.{offsets-length, joined-length, all-filled}

@@ -1,6 +1,5 @@
 -- `fill::write_entries` meets its contract: what is left to write makes the same of the room as the whole does. Assumes nothing.
-use Rattle.rules.proofs.Prelude.{_≡_, sym, _∙_, _-_, arith, needs, length}
-use lib.Seq.{length-sets}
+use Rattle.rules.proofs.Prelude.{_∙_, _-_, arith, needs, length}
 use Rattle.fill.specs.Steps.{listOf, Reached}
 use Rattle.fill.proofs.Laws.{reached-first, reached-next, stands-inside, Filling, fill-begins, number-fits, name-fits, fill-turn, fill-ends}
 use Rattle.fill.proofs.write_entries.Statement.{statement}

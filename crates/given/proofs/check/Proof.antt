@@ -1,5 +1,5 @@
 -- `given::check` meets its contract: the names before k are good, and name k begins where the last of them ends. Assumes nothing.
-use Rattle.rules.proofs.Prelude.{_≡_, refl, sym, _∙_, List, ℕ, _+_, _-_, _≤_, _<_, arith, needs, length, first, each, pass, stop, each-none, each-more, each-stop, first-pass}
+use Rattle.rules.proofs.Prelude.{_≡_, refl, sym, _∙_, _-_, _≤_, arith, needs, length, first, each, pass, each-none, each-more, each-stop, first-pass}
 use Rattle.run.specs.Run.{begin as beginOf}
 use Rattle.run.proofs.Means.{next}
 use Rattle.given.specs.Given.{nameRules, checks}

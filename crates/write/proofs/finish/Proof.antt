@@ -1,5 +1,5 @@
 -- `write::finish` meets its contract: the sizes, 10, 46, and the bytes. Assumes nothing.
-use Rattle.rules.proofs.Prelude.{_≡_, refl, sym, _∙_, _+_, arith, needs, length, sets}
+use Rattle.rules.proofs.Prelude.{refl, _∙_, arith, needs, length}
 use Rattle.dictionary.specs.Limits.{limit}
 use Rattle.write.proofs.Laws.{sums-small, length-is, layout-is, laid, too-long, no-room, finish-stop, finish-pass}
 use Rattle.write.proofs.finish.Statement.{statement}

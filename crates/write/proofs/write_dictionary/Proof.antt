@@ -1,5 +1,5 @@
 -- `write::write_dictionary` meets its contract: 45, and the rest once the names are good. Assumes nothing.
-use Rattle.rules.proofs.Prelude.{sym, _∙_, needs}
+use Rattle.rules.proofs.Prelude.{sym, needs}
 use Rattle.given.proofs.Means.{good, good-ends}
 use Rattle.fill.proofs.Laws.{sound}
 use Rattle.write.proofs.Laws.{refused-name, good-names}
