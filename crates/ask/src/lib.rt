@@ -11,8 +11,8 @@ ghost use Rattle.strip.specs.Shapes.{stripBytes};
 ghost use Rattle.lichenhusk.specs.Strip.{lookupWords, allWords, layerWords, listWords, verdictWords, nameAtWords, valueWords, treeWords, pathWords, writeWords};
 ghost use Rattle.host.specs.Host.{wordsIn};
 ghost use Rattle.ask.specs.Numbers.{numbersOf};
-use lichenhusk::STRIP;
 use print::say;
+use strip::STRIP;
 
 // The words for the steps of any path of as many bytes as a program has room for: three a step, and a step for every two bytes.
 pub const STEPS: usize = 98_304;

@@ -1,9 +1,6 @@
 // What a host calls through C: each answer as a strip of six little-endian u32 (include/lichenhusk.h).
 ghost use Rattle.lichenhusk.specs.Promises.{LookupPromise, AllPromise, DictionaryPromise, NamePromise, LayerPromise, ListPromise, ValuePromise, TreePromise, PathPromise, WritePromise, EmptyPromise};
 
-// The bytes of a strip, below which the answer is 40.
-pub const STRIP: usize = 24;
-
 // Lookup by name: field, id, start, end.
 #[no_mangle]
 pub extern "C" fn lichenhusk_lookup(
@@ -14,11 +11,7 @@ pub extern "C" fn lichenhusk_lookup(
 ) -> u32
     ensures { λ r. ⌜ LookupPromise (now (dict .entry)) (now (object .entry)) (now (name .entry)) (now (strip .entry)) r (now (strip .exit)) ⌝ }
 {
-    if strip.len() < STRIP {
-        return 40;
-    }
-    let words = words::of_lookup(lookup::get(dict, object, name));
-    strip::write(strip, words)
+    object_calls::lookup(dict, object, name, strip)
 }
 
 // Lookup of many names at one check: as the layer, and five words a name.
@@ -33,11 +26,7 @@ pub extern "C" fn lichenhusk_lookup_all(
 ) -> u32
     ensures { λ r. ⌜ AllPromise (now (dict .entry)) (now (object .entry)) (now (names .entry)) (now (ends .entry)) (now (words .entry)) (now (strip .entry)) r (now (strip .exit)) (now (words .exit)) ⌝ }
 {
-    if strip.len() < STRIP {
-        return 40;
-    }
-    let six = words::of_lookups(many::get_all(dict, object, names, ends, words));
-    strip::write(strip, six)
+    many_calls::lookup_all(dict, object, names, ends, words, strip)
 }
 
 // Dictionary verdict: entry count, 0, 0, trimmed end.
@@ -45,11 +34,7 @@ pub extern "C" fn lichenhusk_lookup_all(
 pub extern "C" fn lichenhusk_dictionary(dict: &[u8], strip: &mut [u8]) -> u32
     ensures { λ r. ⌜ DictionaryPromise (now (dict .entry)) (now (strip .entry)) r (now (strip .exit)) ⌝ }
 {
-    if strip.len() < STRIP {
-        return 40;
-    }
-    let words = words::of_verdict(metadata::check(dict));
-    strip::write(strip, words)
+    dictionary_calls::dictionary(dict, strip)
 }
 
 // Name by entry number: 0, 0, start, end.
@@ -57,11 +42,7 @@ pub extern "C" fn lichenhusk_dictionary(dict: &[u8], strip: &mut [u8]) -> u32
 pub extern "C" fn lichenhusk_name(dict: &[u8], entry: usize, strip: &mut [u8]) -> u32
     ensures { λ r. ⌜ NamePromise (now (dict .entry)) entry (now (strip .entry)) r (now (strip .exit)) ⌝ }
 {
-    if strip.len() < STRIP {
-        return 40;
-    }
-    let words = words::of_entry(metadata::get(dict, entry));
-    strip::write(strip, words)
+    dictionary_calls::name(dict, entry, strip)
 }
 
 // Layer verdict: field count, 0, region start, trimmed end.
@@ -69,11 +50,7 @@ pub extern "C" fn lichenhusk_name(dict: &[u8], entry: usize, strip: &mut [u8]) -
 pub extern "C" fn lichenhusk_layer(dict: &[u8], object: &[u8], strip: &mut [u8]) -> u32
     ensures { λ r. ⌜ LayerPromise (now (dict .entry)) (now (object .entry)) (now (strip .entry)) r (now (strip .exit)) ⌝ }
 {
-    if strip.len() < STRIP {
-        return 40;
-    }
-    let words = words::of_layer(object::check(dict, object));
-    strip::write(strip, words)
+    object_calls::layer(dict, object, strip)
 }
 
 // Listing: as the layer, and the words filled.
@@ -86,11 +63,7 @@ pub extern "C" fn lichenhusk_list(
 ) -> u32
     ensures { λ r. ⌜ ListPromise (now (dict .entry)) (now (object .entry)) (now (words .entry)) (now (strip .entry)) r (now (strip .exit)) (now (words .exit)) ⌝ }
 {
-    if strip.len() < STRIP {
-        return 40;
-    }
-    let six = words::of_listing(listing::list(dict, object, words));
-    strip::write(strip, six)
+    many_calls::list(dict, object, words, strip)
 }
 
 // A value: its kind, 0, and its 64 bits in two words, or the start and end of its bytes.
@@ -98,11 +71,7 @@ pub extern "C" fn lichenhusk_list(
 pub extern "C" fn lichenhusk_value(value: &[u8], strip: &mut [u8]) -> u32
     ensures { λ r. ⌜ ValuePromise (now (value .entry)) (now (strip .entry)) r (now (strip .exit)) ⌝ }
 {
-    if strip.len() < STRIP {
-        return 40;
-    }
-    let words = bits::of_value(value::read(value));
-    strip::write(strip, words)
+    value_call::value(value, strip)
 }
 
 // A whole tree: 0, 0, 0, its own length; or a refusal with the start of the value that it is of. The marks, one a start, are all 0 afterwards.
@@ -115,11 +84,7 @@ pub extern "C" fn lichenhusk_tree(
 ) -> u32
     ensures { λ r. ⌜ TreePromise (now (dict .entry)) (now (value .entry)) (now (marks .entry)) (now (strip .entry)) r (now (strip .exit)) (now (marks .exit)) ⌝ }
 {
-    if strip.len() < STRIP {
-        return 40;
-    }
-    let words = reports::of_tree(tree::check_with(dict, value, marks));
-    strip::write(strip, words)
+    tree_call::tree(dict, value, marks, strip)
 }
 
 // By path: field or index, id, start and end of what stands there; names and words have the path's steps.
@@ -134,11 +99,7 @@ pub extern "C" fn lichenhusk_path(
 ) -> u32
     ensures { λ r. ⌜ PathPromise (now (dict .entry)) (now (value .entry)) (now (path .entry)) (now (names .entry)) (now (words .entry)) (now (strip .entry)) r (now (strip .exit)) (now (names .exit)) (now (words .exit)) ⌝ }
 {
-    if strip.len() < STRIP {
-        return 40;
-    }
-    let six = arrivals::of_asked(path::get(dict, value, path, names, words));
-    strip::write(strip, six)
+    path_call::path(dict, value, path, names, words, strip)
 }
 
 // A sorted dictionary from names, to the front of the room: how many, 0, 0, its length. `order` and `spare` are scratch.
@@ -153,11 +114,7 @@ pub extern "C" fn lichenhusk_write_dictionary(
 ) -> u32
     ensures { λ r. ⌜ WritePromise (now (run .entry)) (now (ends .entry)) (now (room .entry)) (now (strip .entry)) r (now (strip .exit)) (now (room .exit)) ⌝ }
 {
-    if strip.len() < STRIP {
-        return 40;
-    }
-    let told = receipts::of_written(write::write_dictionary(run, ends, order, spare, room));
-    strip::write(strip, told)
+    write_call::write_dictionary(run, ends, order, spare, room, strip)
 }
 
 // The empty dictionary: 0, or 42 below three bytes of room.
@@ -165,9 +122,5 @@ pub extern "C" fn lichenhusk_write_dictionary(
 pub extern "C" fn lichenhusk_empty(room: &mut [u8]) -> u32
     ensures { λ r. ⌜ EmptyPromise (now (room .entry)) r (now (room .exit)) ⌝ }
 {
-    let written = metadata::write_empty(room);
-    match written {
-        metadata::Written::NoRoom => 42,
-        metadata::Written::Written => 0,
-    }
+    dictionary_calls::empty(room)
 }

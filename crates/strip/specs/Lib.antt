@@ -1,2 +1,4 @@
 pub mod Shapes
 pub mod Steps
+pub mod Strip
+pub mod Promises

@@ -6,6 +6,9 @@ ghost use lib.ListN.{length, set};
 ghost use Rattle.strip.specs.Shapes.{refusalWords, stripBytes};
 ghost use Rattle.strip.specs.Steps.{listOf, Wrote};
 
+// The bytes of a strip, below which the answer of every call is 40.
+pub const STRIP: usize = 24;
+
 // The six numbers of a strip.
 pub struct Words {
     pub code: u32,
