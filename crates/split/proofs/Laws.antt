@@ -1,8 +1,7 @@
 -- Laws of lines: the first one and the rest, and what the loop goes by. Assumes nothing.
-use Prim.Native.Nat.{min}
 use lib.ListN.{drop-of-length-le}
 use lib.Seq.{length-sets}
-use Rattle.rules.proofs.Prelude.{_≡_, refl, sym, ap, _∙_, Bool, true, false, cond, List, [], _∷_, _++_, ℕ, suc, _+_, _-_, _≤_, _<_, add-one, arith, length}
+use Rattle.rules.proofs.Prelude.{_≡_, refl, sym, ap, _∙_, Bool, true, false, cond, List, [], _∷_, ℕ, suc, _+_, _-_, _≤_, _<_, add-one, arith, length}
 use Rattle.rules.proofs.Prelude.{take, drop, drop-drop, take-at, length-take, length-drop, set, sets, sets-eq, length-set}
 use Rattle.put.proofs.Laws.{sets-append}
 use Rattle.text.specs.Text.{before}

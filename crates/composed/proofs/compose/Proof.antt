@@ -1,5 +1,5 @@
 -- `composed::compose` meets its contract: the parts that are written are the lines of the text and their ends. Assumes nothing.
-use Rattle.rules.proofs.Prelude.{_≡_, sym, _∙_, _≤_, arith, needs, length}
+use Rattle.rules.proofs.Prelude.{arith, needs}
 use Rattle.composed.proofs.Laws.{of-lines}
 use Rattle.composed.proofs.compose.Statement.{statement}
 use Rattle.composed.proofs.compose.Tie as tie
@@ -21,5 +21,7 @@ compose-spec =
     (λ c. search needs)  -- slice-aggregate-write-dictionary-2
     (λ c κs. search needs)  -- write-dictionary-requires
     (λ c. search needs)  -- same-length
-    (λ c. let w = c .before .before .before .before .write-dictionary .ensures in
-    of-lines _ (c .before .before .before .before .before .before .before .before .before .before .before .before .before .before .before .before .before .before .before .args .out .now) (c .before .before .before .before .before .before .before .before .before .before .before .before .before .before .gather .ensures .0) (omega arith) (w .0) (w .1)))  -- returns
+    (λ c. let call = c .before .before .before .before in
+    let gathered = call .before .before .before .before .before .before .before .before .before .before in
+    let w = call .write-dictionary .ensures in
+    of-lines _ (gathered .before .before .before .before .before .args .out .now) (gathered .gather .ensures .0) (omega arith) (w .0) (w .1)))  -- returns

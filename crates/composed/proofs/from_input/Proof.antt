@@ -1,5 +1,5 @@
 -- `composed::from_input` is safe: what was written is within the room. Assumes nothing.
-use Rattle.rules.proofs.Prelude.{_≡_, sym, _∙_, _≤_, arith, needs, length}
+use Rattle.rules.proofs.Prelude.{arith, needs}
 use Rattle.composed.proofs.Laws.{within}
 use Rattle.composed.proofs.from_input.Statement.{statement}
 use Rattle.composed.proofs.from_input.Tie as tie

@@ -1,5 +1,5 @@
 -- `split::gather` meets its contract: what is left makes the same of run and ends as the whole does. Assumes nothing.
-use Rattle.rules.proofs.Prelude.{_≡_, refl, _-_, arith, needs, length}
+use Rattle.rules.proofs.Prelude.{refl, _-_, arith, needs, length}
 use Rattle.split.proofs.Laws.{Left, begins, within, turn, ended}
 use Rattle.split.proofs.gather.Statement.{statement}
 use Rattle.split.proofs.gather.Tie as tie
@@ -19,16 +19,17 @@ gather-spec =
     (λ c. begins _ _ _)  -- loop-holds
     (λ c κs. search needs)  -- find-requires
     (λ c. omega (arith, within (c .before .before .loop .inv) _ (c .before .loop-test .taken) (c .find .ensures)))  -- sub-copy
-    (λ c κs. omega (arith, within (c .before .before .before .loop .inv) _ (c .before .before .loop-test .taken) (c .before .find .ensures), c .before .before .before .loop .inv))  -- copy-requires
-    (λ c. omega (arith, within (c .before .before .before .before .before .before .loop .inv) _ (c .before .before .before .before .before .loop-test .taken) (c .before .before .before .before .find .ensures)))  -- sub-len
-    (λ c. omega (arith, within (c .before .before .before .before .before .before .loop .inv) _ (c .before .before .before .before .before .loop-test .taken) (c .before .before .before .before .find .ensures)))  -- add-len
-    (λ c. omega (arith, within (c .before .before .before .before .before .before .loop .inv) _ (c .before .before .before .before .before .loop-test .taken) (c .before .before .before .before .find .ensures)))  -- cast-ends
+    (λ c κs. let f = c .before in omega (arith, within (f .before .before .loop .inv) _ (f .before .loop-test .taken) (f .find .ensures), f .before .before .loop .inv))  -- copy-requires
+    (λ c. let f = c .before .before .before .before in omega (arith, within (f .before .before .loop .inv) _ (f .before .loop-test .taken) (f .find .ensures)))  -- sub-len
+    (λ c. let f = c .before .before .before .before in omega (arith, within (f .before .before .loop .inv) _ (f .before .loop-test .taken) (f .find .ensures)))  -- add-len
+    (λ c. let f = c .before .before .before .before in omega (arith, within (f .before .before .loop .inv) _ (f .before .loop-test .taken) (f .find .ensures)))  -- cast-ends
     (λ c. search needs)  -- mul-ends
-    (λ c. omega (arith, within (c .before .before .before .before .before .before .loop .inv) _ (c .before .before .before .before .before .loop-test .taken) (c .before .before .before .before .find .ensures), c .before .before .before .before .before .before .loop .inv))  -- slice-write-ends
-    (λ c. omega (arith, within (c .before .before .before .before .before .before .loop .inv) _ (c .before .before .before .before .before .loop-test .taken) (c .before .before .before .before .find .ensures)))  -- add-count
-    (λ c. omega (arith, within (c .before .before .before .before .before .before .loop .inv) _ (c .before .before .before .before .before .loop-test .taken) (c .before .before .before .before .find .ensures)))  -- add-at
-    (λ c. omega (arith, within (c .before .before .before .before .before .before .loop .inv) _ (c .before .before .before .before .before .loop-test .taken) (c .before .before .before .before .find .ensures)))  -- loop-less
-    (λ c. rw (c .before .before .copy .ensures) (turn (c .before .before .before .before .before .before .loop .inv) _ (c .before .before .before .before .before .loop-test .taken) (c .before .before .before .before .find .ensures)))  -- loop-again
+    (λ c. let f = c .before .before .before .before in omega (arith, within (f .before .before .loop .inv) _ (f .before .loop-test .taken) (f .find .ensures), f .before .before .loop .inv))  -- slice-write-ends
+    (λ c. let f = c .before .before .before .before in omega (arith, within (f .before .before .loop .inv) _ (f .before .loop-test .taken) (f .find .ensures)))  -- add-count
+    (λ c. let f = c .before .before .before .before in omega (arith, within (f .before .before .loop .inv) _ (f .before .loop-test .taken) (f .find .ensures)))  -- add-at
+    (λ c. let f = c .before .before .before .before in omega (arith, within (f .before .before .loop .inv) _ (f .before .loop-test .taken) (f .find .ensures)))  -- loop-less
+    (λ c. let f = c .before .before .before .before in
+    rw (c .before .before .copy .ensures) (turn (f .before .before .loop .inv) _ (f .before .loop-test .taken) (f .find .ensures)))  -- loop-again
     (λ c. c .before .loop .inv .run-same)  -- same-length
     (λ c. c .before .loop .inv .ends-same)  -- same-length-2
     (λ c. let l = c .before .loop .inv in
