@@ -613,9 +613,9 @@ uint32_t lichenhusk_path(const uint8_t *dict, size_t dict_len,
  * is tested, and not proved), and the time grows with n times the different names, with
  * the square of n where all are different.
  * Times on an x86-64 processor (AMD EPYC), names of twelve letters, for 1,000, 100,000
- * and 1,000,000 of them, in milliseconds: with scratch in no order 0.04, 15 and 253,
- * sorted 0.04, 6.7 and 78, reversed 0.04, 6.3 and 73, all equal 0.014, 1.6 and 15;
- * without scratch in no order 8.5, and by the square, not run, some 85,000 and
+ * and 1,000,000 of them, in milliseconds: with scratch in no order 0.04, 15 and 306,
+ * sorted 0.04, 6.5 and 76, reversed 0.05, 7.2 and 79, all equal 0.014, 2.0 and 15;
+ * without scratch in no order 9.0, and by the square, not run, some 90,000 and
  * 9,000,000 (all equal as with it).
  *
  * This makes the example's dictionary, and prints "2 names, 13 bytes":
