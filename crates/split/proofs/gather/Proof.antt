@@ -24,7 +24,8 @@ gather-spec =
     (λ c. let f = c .before .before .before .before in omega (arith, within (f .before .before .loop .inv) _ (f .before .loop-test .taken) (f .find .ensures)))  -- add-len
     (λ c. let f = c .before .before .before .before in omega (arith, within (f .before .before .loop .inv) _ (f .before .loop-test .taken) (f .find .ensures)))  -- cast-ends
     (λ c. search needs)  -- mul-ends
-    (λ c. let f = c .before .before .before .before in omega (arith, within (f .before .before .loop .inv) _ (f .before .loop-test .taken) (f .find .ensures), f .before .before .loop .inv))  -- slice-write-ends
+    (λ c. let f = c .before .before .before .before in
+    omega (arith, within (f .before .before .loop .inv) _ (f .before .loop-test .taken) (f .find .ensures), f .before .before .loop .inv))  -- slice-write-ends
     (λ c. let f = c .before .before .before .before in omega (arith, within (f .before .before .loop .inv) _ (f .before .loop-test .taken) (f .find .ensures)))  -- add-count
     (λ c. let f = c .before .before .before .before in omega (arith, within (f .before .before .loop .inv) _ (f .before .loop-test .taken) (f .find .ensures)))  -- add-at
     (λ c. let f = c .before .before .before .before in omega (arith, within (f .before .before .loop .inv) _ (f .before .loop-test .taken) (f .find .ensures)))  -- loop-less
