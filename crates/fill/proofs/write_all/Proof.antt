@@ -1,7 +1,6 @@
 -- `fill::write_all` meets its contract: the first byte, the count, and offsets and names. Assumes nothing.
 use Rattle.rules.proofs.Prelude.{_∙_, arith, needs, length, length-set}
 use Rattle.fill.specs.Steps.{listOf}
-use Rattle.fill.specs.Bytes.{lead}
 use Rattle.fill.proofs.Laws.{offsets-length, joined-length, all-filled}
 use Rattle.fill.proofs.write_all.Statement.{statement}
 use Rattle.fill.proofs.write_all.Tie as tie
@@ -14,7 +13,7 @@ write-all-spec =
     (λ c. let p = c .before .before .before .before .pre .2 in omega (arith, p .fits, p .region-is))  -- slice-write-room
     (λ c κs. let s = c .before .before .before .before .before in
     let p = s .pre .2 in
-    omega (arith, p .fits, p .region-is, length-set (s .args .room .now) 0 (lead (s .args .w))))  -- number-requires
+    simp length-set (omega (arith, p .fits, p .region-is)))  -- number-requires
     (λ c. search needs)  -- add-write-entries
     (λ c κs. let s = c .before .before .before .before .before .before .before .before .before in
     let p = s .pre .2 in
@@ -24,11 +23,10 @@ write-all-spec =
       s .pre .1,
       record {
         offsets-fit = omega (arith, p .region-is, offsets-length w 0 names);
-        names-fit = omega (arith, p .fits, joined-length names, c .before .before .before .number .kept .1 .1 .0, length-set (s .args .room .now) 0 (lead w));
+        names-fit = omega (arith, p .fits, joined-length names, simp length-set at (c .before .before .before .number .kept .1 .1 .0));
       },
     ))  -- write-entries-requires
-    (λ c. let a = c .before .before .before .before .before .before .before .before .before .before .before .before .args in
-    c .before .before .write-entries .kept .1 .1 .1 .1 .0 ∙ c .before .before .before .before .before .before .number .kept .1 .1 .0 ∙ length-set (a .room .now) 0 (lead (a .w)))  -- same-length
+    (λ c. c .before .before .write-entries .kept .1 .1 .1 .1 .0 ∙ c .before .before .before .before .before .before .number .kept .1 .1 .0 ∙ simp length-set)  -- same-length
     (λ c. let s = c .before .before .before .before .before .before .before .before .before .before .before .before in
     let p = s .pre .2 in
     let whole = all-filled (s .args .w) _ (s .args .room .now) (s .args .count) (s .args .region) (p .count-is) (p .region-is) in
