@@ -2,6 +2,7 @@
 use cases::ENDS;
 use libc::STDOUT_FILENO;
 use lines::read_line;
+use print::room;
 use print::room::ROOM;
 use print::room::use_library;
 use print::tell;
@@ -10,14 +11,18 @@ use print::tell;
 const LINE: usize = 300_000;
 
 fn answer(line: &[u8]) {
-    let mut dict = [0u8; ROOM];
-    let mut object = [0u8; ROOM];
-    let mut query = [0u8; ROOM];
     let mut ends = [0u32; ENDS];
-    let mut room = [0u32; ROOM];
-    let words: &mut [u32] = &mut room;
-    let outcome = cases::answer(line, &mut dict, &mut object, &mut query, &mut ends, words);
-    cases::write(outcome, words, ROOM);
+    let mut lent = room::words();
+    let words: &mut [u32] = &mut lent;
+    let outcome = cases::answer(
+        line,
+        &mut room::bytes(),
+        &mut room::bytes(),
+        &mut room::bytes(),
+        &mut ends,
+        words,
+    );
+    outcomes::write(outcome, words, ROOM);
     tell(b"\n");
 }
 
@@ -31,11 +36,8 @@ fn answer_line(line: &[u8], long: bool) {
     }
 }
 
-pub fn run() {
-    let mut chunk_room = io::large_buffer();
-    let chunk: &mut [u8] = &mut chunk_room;
-    let mut line_room = [0u8; LINE];
-    let line: &mut [u8] = &mut line_room;
+// The lines of standard input, through rooms for a chunk of it and for a line.
+fn answer_lines(chunk: &mut [u8], line: &mut [u8]) {
     let mut source = lines::start();
     let mut turns = u64::MAX;
     while turns > 0 {
@@ -51,4 +53,12 @@ pub fn run() {
         }
         source = read.source;
     }
+}
+
+fn line_room() -> [u8; LINE] {
+    [0; LINE]
+}
+
+pub fn run() {
+    answer_lines(&mut io::large_buffer(), &mut line_room());
 }

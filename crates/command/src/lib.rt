@@ -1,17 +1,13 @@
 // The command `variant`: what it does with its arguments. The programs over it are variant and, for tests, variant_runs.
-ghost use Prim.Native.Nat.{_≤_};
-ghost use lib.ListN.{length};
-
 mod batch;
 
+use arguments::argument;
 use files::LENT;
 use libc::STDERR_FILENO;
 use libc::STDIN_FILENO;
 use libc::STDOUT_FILENO;
-use print::room::ROOM;
-use print::room::longer_than;
-use print::room::use_library;
-use print::say;
+use operands::which;
+use print::room;
 use print::tell;
 use print::tell_to;
 use print::write_hex;
@@ -145,93 +141,56 @@ pub fn get(path: &[u8], value_path: &[u8], steps: &[u8]) {
 
 // The bytes of the dictionary are all that goes to standard output.
 fn write_dictionary() {
-    let mut room = [0u8; ROOM];
+    let mut room = room::bytes();
     let n = composed::from_input(STDIN_FILENO, STDERR_FILENO, &mut room);
     if !io::write_all(STDOUT_FILENO, &room[0..n]) {
         tell_to(STDERR_FILENO, b"cannot write the dictionary\n");
     }
 }
 
-// A command of `count` words, `variant` among them; the words that are not there are empty. Those of more are `find` and `get`.
-pub fn act(count: usize, verb: &[u8], one: &[u8], two: &[u8]) {
-    if count == 2 && check::same(verb, b"batch") {
-        batch::run();
-    } else if count == 2 && check::same(verb, b"write-dictionary") {
-        write_dictionary();
-    } else if count == 3 && check::same(verb, b"check") {
-        check(one);
-    } else if count == 4 && check::same(verb, b"check") {
-        with_both(Wish::Check, one, two, b"", &[0; 0]);
-    } else if count == 4 && check::same(verb, b"name") {
-        name(one, two);
-    } else if count == 4 && check::same(verb, b"list") {
-        with_both(Wish::List, one, two, b"", &[0; 0]);
-    } else if count == 4 && check::same(verb, b"tree") {
-        with_both(Wish::Tree, one, two, b"", &[0; 0]);
+// The commands of two words, of three and of four, by the number of the verb; `variant` is among the words.
+fn of_input(kind: usize) {
+    match kind {
+        1 => batch::run(),
+        2 => write_dictionary(),
+        _ => usage(),
+    }
+}
+
+fn of_file(kind: usize, path: &[u8]) {
+    if kind == 3 {
+        check(path);
     } else {
         usage();
     }
 }
 
-// The names that were gathered: the first `len` bytes of a run, and the first `count` ends.
-struct Names {
-    good: bool,
-    len: usize,
-    count: usize,
-}
-
-fn too_long(count: usize) -> Names
-    ensures { λ r. ⌜ (r .len ≤ 0) × (r .count ≤ 0) ⌝ }
-{
-    if count == 5 {
-        tell(b"NAME is");
-    } else {
-        tell(b"the names together are");
-    }
-    use_library(STDOUT_FILENO, ROOM, b" bytes");
-    tell(b"\n");
-    Names {
-        good: false,
-        len: 0,
-        count: 0,
+fn of_files(kind: usize, one: &[u8], two: &[u8]) {
+    match kind {
+        3 => with_both(Wish::Check, one, two, b"", &[0; 0]),
+        4 => name(one, two),
+        5 => with_both(Wish::List, one, two, b"", &[0; 0]),
+        6 => with_both(Wish::Tree, one, two, b"", &[0; 0]),
+        _ => usage(),
     }
 }
 
-// The arguments after DICT and OBJECT, as far as there is room for their ends.
-fn gather(count: usize, run: &mut [u8], ends: &mut [u32]) -> Names
-    requires { do ⌜ length (now run) ≤ (← ⟦ROOM⟧) ⌝ }
-    ensures { λ r. ⌜ (r .len ≤ length (now (run .exit))) × (r .count ≤ length (now (ends .exit))) ⌝ }
-{
-    let mut at: usize = 0;
-    let mut k: usize = 0;
-    for i in 4..count {
-        if k == ends.len() {
-            return Names {
-                good: true,
-                len: at,
-                count: k,
-            };
-        }
-        let n = os::arg(i, &mut run[at..]);
-        if os::errno() != 0 {
-            return too_long(count);
-        }
-        at += n;
-        ends[k] = at as u32;
-        k += 1;
-    }
-    Names {
-        good: true,
-        len: at,
-        count: k,
+// A command of `count` words; the words that are not there are empty. Those of more are `find` and `get`.
+pub fn act(count: usize, verb: &[u8], one: &[u8], two: &[u8]) {
+    let kind = which(b"batch write-dictionary check name list tree", 6, verb);
+    match count {
+        2 => of_input(kind),
+        3 => of_file(kind, one),
+        4 => of_files(kind, one, two),
+        _ => usage(),
     }
 }
 
 // There is room for one end more than are taken, so that too many are seen.
 fn find_arguments(count: usize, path: &[u8], object_path: &[u8]) {
-    let mut run = [0u8; ROOM];
+    let mut run = room::bytes();
     let mut ends = [0u32; 65];
-    let names = gather(count, &mut run, &mut ends);
+    let names = arguments::gather(count, &mut run, &mut ends);
     if !names.good {
         return;
     }
@@ -240,32 +199,8 @@ fn find_arguments(count: usize, path: &[u8], object_path: &[u8]) {
     find(path, object_path, &run[0..n], &ends[0..k]);
 }
 
-// A word of the command: the first `len` bytes of the room lent, none where it is missing.
-struct Word {
-    good: bool,
-    len: usize,
-}
-
-// One that is longer than the room is not taken: cut short it would name another file.
-fn argument(i: usize, out: &mut [u8]) -> Word
-    ensures { λ r. ⌜ r .len ≤ length (now (out .exit)) ⌝ }
-{
-    let len = os::arg(i, out);
-    if os::errno() == libc::ENAMETOOLONG {
-        say(b"argument ", i);
-        tell(b" is");
-        longer_than(STDOUT_FILENO, out.len(), b" bytes");
-        tell(b"\n");
-        return Word {
-            good: false,
-            len: 0,
-        };
-    }
-    Word { good: true, len }
-}
-
 fn get_argument(path: &[u8], value_path: &[u8]) {
-    let mut room = [0u8; ROOM];
+    let mut room = room::bytes();
     let steps = argument(4, &mut room);
     if !steps.good {
         return;
@@ -274,12 +209,19 @@ fn get_argument(path: &[u8], value_path: &[u8]) {
     get(path, value_path, &room[0..n]);
 }
 
-// The command of the first `count` of the program's arguments, its name among them. The first three words have room for the longest path.
-pub fn run_first(count: usize) {
-    if count < 2 {
-        show();
-        return;
+// The command of `count` words: the first three beside its name, and the others where they are.
+fn of_words(count: usize, verb: &[u8], one: &[u8], two: &[u8]) {
+    if 5 <= count && check::same(verb, b"find") {
+        find_arguments(count, one, two);
+    } else if count == 5 && check::same(verb, b"get") {
+        get_argument(one, two);
+    } else {
+        act(count, verb, one, two);
     }
+}
+
+// These three have room for the longest path.
+fn run_words(count: usize) {
     let mut verb_room = io::buffer();
     let mut one_room = io::buffer();
     let mut two_room = io::buffer();
@@ -292,12 +234,15 @@ pub fn run_first(count: usize) {
     let v = verb.len;
     let a = one.len;
     let b = two.len;
-    if 5 <= count && check::same(&verb_room[0..v], b"find") {
-        find_arguments(count, &one_room[0..a], &two_room[0..b]);
-    } else if count == 5 && check::same(&verb_room[0..v], b"get") {
-        get_argument(&one_room[0..a], &two_room[0..b]);
+    of_words(count, &verb_room[0..v], &one_room[0..a], &two_room[0..b]);
+}
+
+// The command of the first `count` of the program's arguments, its name among them.
+pub fn run_first(count: usize) {
+    if count < 2 {
+        show();
     } else {
-        act(count, &verb_room[0..v], &one_room[0..a], &two_room[0..b]);
+        run_words(count);
     }
 }
 

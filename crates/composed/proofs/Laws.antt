@@ -11,8 +11,8 @@ use Rattle.split.specs.declared.Names.{Names}
 use Rattle.split.specs.Lines.{linesOf, endsOf}
 use Rattle.split.specs.Promises.{GatherPromise}
 use Rattle.split.proofs.Laws.{run-part, ends-part}
-use Rattle.ask.specs.declared.Answer.{Answer}
-use Rattle.ask.specs.Numbers.{numbersOf}
+use Rattle.answers.specs.declared.Answer.{Answer}
+use Rattle.answers.specs.Numbers.{numbersOf}
 
 -- OF THE PARTS that hold the lines and their ends
 

@@ -7,8 +7,8 @@ ghost use Rattle.write.specs.Writing.{roomAfter};
 ghost use Rattle.lichenhusk.specs.Strip.{writeWords};
 ghost use Rattle.fill.specs.Bytes.{joined};
 ghost use Rattle.split.specs.Lines.{linesOf, endsOf};
-ghost use Rattle.ask.specs.Numbers.{numbersOf};
-use ask::Answer;
+ghost use Rattle.answers.specs.Numbers.{numbersOf};
+use answers::Answer;
 use files::LENT;
 use print::room::ROOM;
 
@@ -25,7 +25,7 @@ fn compose(text: &[u8], out: &mut [u8]) -> Answer
     let k = names.count;
     let mut order = [0u32; ROOM];
     let mut spare = [0u32; ROOM];
-    ask::write_dictionary(&run[0..n], &ends[0..k], &mut order, &mut spare, out)
+    ask_into::write_dictionary(&run[0..n], &ends[0..k], &mut order, &mut spare, out)
 }
 
 // Of what is read from `input`, and how many bytes it has: 0 where there is none, and why goes to `to`.

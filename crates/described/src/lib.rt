@@ -1,8 +1,8 @@
 // An object layer and its fields in words, to standard output: what is here promises safety only.
 ghost use Rattle.fields.specs.Steps.{Over};
-use ask::Answer;
+use answers::Answer;
 use print::quoted;
-use print::room::ROOM;
+use print::room;
 use print::say;
 use print::tell;
 use print::wide;
@@ -78,9 +78,9 @@ fn fields(dict: &[u8], object: &[u8], words: &[u32]) {
 // Three words a field. An object of more than 256 fields has three bytes or more for each, so that as many words as a program has bytes
 // are enough.
 pub fn list(dict: &[u8], object: &[u8]) {
-    let mut room = [0u32; ROOM];
+    let mut room = room::words();
     let words: &mut [u32] = &mut room;
-    let a = ask::list(dict, object, words);
+    let a = ask_into::list(dict, object, words);
     if a.code != 0 {
         refused(a.code, a.place);
         return;

@@ -6,6 +6,15 @@ use crate::tell_to;
 // lends; a program has only its stack.
 pub const ROOM: usize = 65_536;
 
+// So many bytes, and so many words. A caller need not count them: that an array is as long as its type says comes with it.
+pub fn bytes() -> [u8; ROOM] {
+    [0; ROOM]
+}
+
+pub fn words() -> [u32; ROOM] {
+    [0; ROOM]
+}
+
 // What comes after `it is` where there are more than `most` of these, to an open file.
 pub fn longer_than(to: i32, most: usize, of_these: &[u8]) -> bool {
     say_to(to, b" longer than ", most);

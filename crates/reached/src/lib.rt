@@ -1,9 +1,9 @@
 // What stands at the end of a path, or why nothing does, as words to standard output: what is here promises safety only.
-use ask::Answer;
-use ask::STEPS;
+use answers::Answer;
+use ask_into::STEPS;
 use libc::STDOUT_FILENO;
 use print::quoted;
-use print::room::ROOM;
+use print::room;
 use print::say;
 use print::tell;
 use print::wide;
@@ -100,10 +100,10 @@ fn found(whole: &[u8], a: Answer, kind: u32) {
 }
 
 pub fn get(dict: &[u8], value: &[u8], path: &[u8]) {
-    let mut names = [0u8; ROOM];
-    let mut room = [NO_STEP; STEPS];
-    let words: &mut [u32] = &mut room;
-    let a = ask::path(dict, value, path, &mut names, words);
+    let mut names = room::bytes();
+    let mut steps = [NO_STEP; STEPS];
+    let words: &mut [u32] = &mut steps;
+    let a = ask_into::path(dict, value, path, &mut names, words);
     if a.code == 0 {
         found(value, a, last(words));
     } else if a.code == 1 {

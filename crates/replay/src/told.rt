@@ -2,10 +2,10 @@
 //
 //     accepts COUNT END     child COUNT END     at START END     found FIELD ID START END     absent     refuses NUMBER     refuses NUMBER START
 //     rows COUNT END : CODE FIELD ID START END ..     reads KIND LOW HIGH     writes COUNT LENGTH : BYTE ..
-use ask::Answer;
-use cases::expected::ends;
-use cases::expected::has_filled;
-use cases::expected::see;
+use answers::Answer;
+use operands::ends;
+use outcomes::expected::has_filled;
+use outcomes::expected::see;
 use text::word;
 
 // Whether the text from `from` on has just these two numbers.

@@ -1,7 +1,7 @@
 // Each answer as a sentence to standard output: what is here promises safety only.
 ghost use Prim.Native.Nat.{_+_, _≤_};
 ghost use lib.ListN.{length};
-use ask::Answer;
+use answers::Answer;
 use print::quoted;
 use print::say;
 use print::tell;
@@ -110,7 +110,7 @@ fn rows(object: &[u8], names: &[u8], ends: &[u32], words: &[u32]) {
 pub fn find_all(dict: &[u8], object: &[u8], names: &[u8], ends: &[u32]) {
     let mut room = [0u32; 320];
     let words: &mut [u32] = &mut room;
-    let a = ask::lookup_all(dict, object, names, ends, words);
+    let a = ask_into::lookup_all(dict, object, names, ends, words);
     if a.code != 0 {
         refused(a.code, a.place);
         return;

@@ -2,7 +2,7 @@
 mod kinds;
 mod numbers;
 
-use ask::Answer;
+use answers::Answer;
 use print::say;
 use print::tell;
 use print::write_hex;

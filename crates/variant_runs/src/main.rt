@@ -4,7 +4,7 @@
 ghost use Prim.Native.Nat.{_≤_};
 ghost use lib.ListN.{length};
 use libc::STDOUT_FILENO;
-use print::room::ROOM;
+use print::room;
 use text::find;
 use text::word;
 
@@ -104,7 +104,7 @@ fn front(s: &[u8]) -> &[u8] {
 
 // What `write-dictionary` makes of a file, its messages among it: the first bytes in hex, and how all are read.
 fn write_dictionary(path: &[u8]) {
-    let mut room = [0u8; ROOM];
+    let mut room = room::bytes();
     let fd = os::open_read(path);
     let n = composed::from_input(fd, STDOUT_FILENO, &mut room);
     libc::close(fd);

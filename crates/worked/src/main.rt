@@ -1,16 +1,18 @@
 // Runs the worked cases that the tables of starred cases do not prove, and the vectors of the Rust's documentation, each against the
-// answer that is expected of it. Most are lines of data/cases, `name: question = answer`; the others are in special.rt, paths.rt
-// and writes.rt, with their answers. A line a case: its name, the answer, and whether it is as expected.
+// answer that is expected of it. Most are lines of data/cases, `name: question = answer`; those of what stands in rooms lent are lines of
+// data/children, data/paths and data/writes, and the others are in special.rt, with their answers. A line a case: its name, the answer, and
+// whether it is as expected.
 //
 // The vectors of builder.rs and of variant.rs's objects are the bytes that the Rust's builder makes in those examples.
 use libc::STDOUT_FILENO;
 
+mod children;
 mod paths;
 mod report;
 mod special;
 mod writes;
 
-use cases::Outcome;
+use outcomes::Outcome;
 use tally::Tally;
 use text::find;
 
@@ -18,8 +20,8 @@ use text::find;
 const ROOM: usize = 320;
 
 fn judge(t: Tally, want: &[u8], outcome: Outcome, words: &[u32]) -> Tally {
-    cases::write(outcome, words, ROOM);
-    if cases::expected::is(want, outcome, words) {
+    outcomes::write(outcome, words, ROOM);
+    if outcomes::expected::is(want, outcome, words) {
         return report::good(t);
     }
     io::write_all(STDOUT_FILENO, b": NOT as expected:");
@@ -45,35 +47,47 @@ fn answer(t: Tally, question: &[u8], want: &[u8]) -> Tally {
     judge(t, want, outcome, words)
 }
 
-fn no_case(t: Tally) -> Tally {
-    io::write_all(STDOUT_FILENO, b"NOT a line of the table");
-    report::bad(t)
-}
-
 // A line of the table, without its end. One that is no case is not as expected.
-fn case(t: Tally, line: &[u8]) -> Tally {
+fn question(t: Tally, line: &[u8]) -> Tally {
     let colon = find(line, 0, b':');
     io::write_all(STDOUT_FILENO, &line[0..colon]);
     io::write_all(STDOUT_FILENO, b": ");
     let equals = find(line, colon, b'=');
     let n = line.len();
     if equals == n {
-        return no_case(t);
+        return report::no_case(t);
     }
     let from = colon + 1;
     let after = equals + 1;
     if equals < from {
-        return no_case(t);
+        return report::no_case(t);
     }
     answer(t, &line[from..equals], &line[after..n])
 }
 
-fn run(text: &[u8]) -> Tally {
-    let mut t = tally::none();
+// What the lines of a table are.
+enum Kind {
+    Question,
+    Child,
+    Path,
+    Write,
+}
+
+fn case(t: Tally, kind: Kind, line: &[u8]) -> Tally {
+    match kind {
+        Kind::Question => question(t, line),
+        Kind::Child => children::case(t, line),
+        Kind::Path => paths::case(t, line),
+        Kind::Write => writes::case(t, line),
+    }
+}
+
+fn run(tally: Tally, kind: Kind, text: &[u8]) -> Tally {
+    let mut t = tally;
     let mut at: usize = 0;
     while at < text.len() {
         let end = find(text, at, b'\n');
-        t = case(t, &text[at..end]);
+        t = case(t, kind, &text[at..end]);
         if end == text.len() {
             return t;
         }
@@ -82,8 +96,15 @@ fn run(text: &[u8]) -> Tally {
     t
 }
 
-fn main() {
+fn table(t: Tally, kind: Kind, file: &[u8]) -> Tally {
     let mut text = io::large_buffer();
-    let n = tally::load(b"cases", &mut text);
-    report::close(writes::run(paths::run(special::run(run(&text[0..n])))));
+    let n = tally::load(file, &mut text);
+    run(t, kind, &text[0..n])
+}
+
+fn main() {
+    let t = table(tally::none(), Kind::Question, b"cases");
+    let t = table(special::rooms(t), Kind::Child, b"children");
+    let t = table(special::run(t), Kind::Path, b"paths");
+    report::close(table(t, Kind::Write, b"writes"));
 }

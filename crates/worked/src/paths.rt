@@ -1,10 +1,20 @@
-// Asking by path into rooms lent: what stands in them afterwards.
+// Asking by path into rooms lent: what stands in them afterwards. A line is `DICT PATH NAMES CODE STRIP WORD ..`: NAMES, in hex, and the
+// WORDs are what both rooms hold after the call. Each room is so long, and all in it was 9; the strip has STRIP bytes.
+//
+// First the steps stand in both rooms, and the rest stays: found, absent, and refused after the path was read. A path that is none leaves
+// both, whatever came before in it. Then there is room for the names' bytes and three words a step, and one less of either; a strip that is
+// short leaves both, too.
 use crate::report::bytes;
+use crate::report::no_case;
 use crate::report::number;
 use crate::report::words;
+use operands::Tail;
+use print::wide;
+use slices::first;
+use slices::part_of;
 use tally::Tally;
 
-// The path of a case over a dictionary and the object {"flow": [true, type 21], "roll": true}: the code, and both rooms after the call.
+// The code, and both rooms after the call, over a dictionary and the object {"flow": [true, type 21], "roll": true}.
 fn asked(
     t: Tally,
     dict: &[u8],
@@ -14,7 +24,7 @@ fn asked(
     strip: &mut [u8],
     code: usize,
     spelt: &[u8],
-    want: &[u8],
+    want: &[u32],
 ) -> Tally {
     let object = b"\x02\x02\x00\x01\x00\x07\x08\x03\x02\x00\x01\x02\x04\x54\x04";
     let got = lichenhusk::lichenhusk_path(dict, object, path, names, rows, strip);
@@ -25,118 +35,63 @@ fn asked(
     words(t, b"the words after it", rows, want)
 }
 
-// Over D, with four bytes of 9 for names and seven words of 9.
-fn over_d(t: Tally, path: &[u8], code: usize, spelt: &[u8], want: &[u8]) -> Tally {
+// `numbers` are STRIP and the WORDs.
+fn in_rooms(
+    t: Tally,
+    dict: &[u8],
+    path: &[u8],
+    spelt: &[u8],
+    code: usize,
+    numbers: &[u32],
+) -> Tally {
+    let k = numbers.len();
+    if k == 0 {
+        return no_case(t);
+    }
+    let strip = wide(numbers[0]);
+    let want = &numbers[1..k];
+    let n = spelt.len();
+    let m = want.len();
+    if 8 < n || 8 < m || 24 < strip {
+        return no_case(t);
+    }
     asked(
         t,
-        b"\x11\x02\x00\x04\x08flowroll",
+        dict,
         path,
-        &mut [9; 4],
-        &mut [9; 7],
-        &mut [9; 24],
+        &mut [9; 8][0..n],
+        &mut [9; 8][0..m],
+        &mut [9; 24][0..strip],
         code,
         spelt,
         want,
     )
 }
 
-// The steps stand in both rooms, and the rest stays: found, absent, and refused after the path was read.
-fn filled(t: Tally) -> Tally {
-    let t = over_d(t, b"", 0, b"\x09\x09\x09\x09", b": 9 9 9 9 9 9 9");
-    let t = over_d(t, b"flow[1]", 0, b"flow", b": 0 0 4 1 1 0 9");
-    let t = over_d(t, b"rol", 1, b"rol\x09", b": 0 0 3 9 9 9 9");
-    let t = over_d(
-        t,
-        b"flow[18446744073709551615]",
-        1,
-        b"flow",
-        b": 0 0 4 1 4294967295 4294967295 9",
-    );
-    let t = over_d(
-        t,
-        b"[4294967298]",
-        53,
-        b"\x09\x09\x09\x09",
-        b": 1 2 1 9 9 9 9",
-    );
-    let t = over_d(t, b"[''].ro", 1, b"ro\x09\x09", b": 0 0 0 0 0 2 9");
-    asked(
-        t,
-        b"",
-        b"roll",
-        &mut [9; 5],
-        &mut [9; 4],
-        &mut [9; 24],
-        11,
-        b"roll\x09",
-        b": 0 0 4 9",
-    )
-}
-
-// A path that is none leaves both, whatever came before in it.
-fn kept(t: Tally) -> Tally {
-    let t = over_d(t, b"a\xFF", 70, b"\x09\x09\x09\x09", b": 9 9 9 9 9 9 9");
-    let t = over_d(t, b".a", 71, b"\x09\x09\x09\x09", b": 9 9 9 9 9 9 9");
-    let t = over_d(t, b"a.", 72, b"\x09\x09\x09\x09", b": 9 9 9 9 9 9 9");
-    let t = over_d(t, b"a..", 73, b"\x09\x09\x09\x09", b": 9 9 9 9 9 9 9");
-    let t = over_d(t, b"a[", 74, b"\x09\x09\x09\x09", b": 9 9 9 9 9 9 9");
-    over_d(t, b"a[x]", 75, b"\x09\x09\x09\x09", b": 9 9 9 9 9 9 9")
-}
-
-// "roll" over D, into rooms and a strip.
-fn roll(
-    t: Tally,
-    names: &mut [u8],
-    rows: &mut [u32],
-    strip: &mut [u8],
-    code: usize,
-    spelt: &[u8],
-    want: &[u8],
-) -> Tally {
-    let d = b"\x11\x02\x00\x04\x08flowroll";
-    asked(t, d, b"roll", names, rows, strip, code, spelt, want)
-}
-
-// Room for the names' bytes and three words a step, and one less of either. A strip that is short leaves both, too.
-fn rooms(t: Tally) -> Tally {
-    let t = roll(
-        t,
-        &mut [9; 4],
-        &mut [9; 3],
-        &mut [9; 24],
+pub fn case(t: Tally, line: &[u8]) -> Tally {
+    let mut dict = [0u8; 32];
+    let mut path = [0u8; 32];
+    let mut spelt = [0u8; 32];
+    let mut numbers = [0u32; 16];
+    let read = operands::read(
+        line,
         0,
-        b"roll",
-        b": 0 0 4",
+        3,
+        Tail::Numbers,
+        &mut dict,
+        &mut path,
+        &mut spelt,
+        &mut numbers,
     );
-    let t = roll(
+    if read.fault != 0 {
+        return no_case(t);
+    }
+    in_rooms(
         t,
-        &mut [9; 3],
-        &mut [9; 3],
-        &mut [9; 24],
-        76,
-        b"\x09\x09\x09",
-        b": 9 9 9",
-    );
-    let t = roll(
-        t,
-        &mut [9; 4],
-        &mut [9; 2],
-        &mut [9; 24],
-        76,
-        b"\x09\x09\x09\x09",
-        b": 9 9",
-    );
-    roll(
-        t,
-        &mut [9; 4],
-        &mut [9; 3],
-        &mut [9; 23],
-        40,
-        b"\x09\x09\x09\x09",
-        b": 9 9 9",
+        part_of(&dict, 0, read.one),
+        part_of(&path, 0, read.two),
+        part_of(&spelt, 0, read.three),
+        read.number,
+        first(&numbers, read.more),
     )
-}
-
-pub fn run(t: Tally) -> Tally {
-    rooms(kept(filled(t)))
 }

@@ -6,10 +6,10 @@ use Rattle.worked.proofs.run.Statement.{statement}
 use Rattle.worked.proofs.run.Tie as tie
 
 abbrev Inv-loop : tie.InvT-loop
-Inv-loop text t₀ at₀ t at = at ≤ length text
+Inv-loop kind text t₀ at₀ t at = at ≤ length text
 
 abbrev μ-loop : tie.MeasureT-loop
-μ-loop text t₀ at₀ t at = length text - at
+μ-loop kind text t₀ at₀ t at = length text - at
 
 pub run-spec : {M : Type 1} → statement M
 run-spec =
@@ -17,7 +17,6 @@ run-spec =
     (tie.spec
     Inv-loop
     μ-loop
-    (λ c κs. search needs)  -- none-requires
     (λ c. search needs)  -- loop-holds
     (λ c κs. search needs)  -- find-requires
     (λ c. search needs)  -- sub-case
