@@ -78,7 +78,7 @@ module _ (run words : List ℕ) (kind : Source) where
 
 -- NAMES THAT ARE WRITTEN THEMSELVES
 
-back : (name : ℕ → List ℕ) (n : ℕ) (xs : List (List ℕ)) → ((x : List ℕ) → In x xs → Numbered name 0 n x) → labels name (numbersFor name n xs) ≡ xs
+pub back : (name : ℕ → List ℕ) (n : ℕ) (xs : List (List ℕ)) → ((x : List ℕ) → In x xs → Numbered name 0 n x) → labels name (numbersFor name n xs) ≡ xs
 unfolding labels numbersFor
 back name n [] h = refl
 back name n (x ∷ xs) h = rw (number-is name n x (h x (inl refl)) .1, back name n xs (λ y i. h y (inr i)))

@@ -1,0 +1,5 @@
+pub mod Writing
+pub mod Meaning
+pub mod Answers
+pub mod Promises
+pub mod Steps
