@@ -45,12 +45,15 @@ const WALKED: usize = 1_000;
 pub type Named<'n, 'd> = (&'n str, Variant<'n, 'd>);
 
 /// What the Rust's builder writes for fields over a dictionary, handed to it one after another.
-pub fn built(metadata: &VariantMetadata, fields: &[Named]) -> Vec<u8> {
+pub fn built<'n, 'd: 'n>(
+    metadata: &VariantMetadata,
+    fields: impl IntoIterator<Item = Named<'n, 'd>>,
+) -> Vec<u8> {
     let (mut names, mut value) = (ReadOnlyMetadataBuilder::new(metadata), ValueBuilder::new());
     let state = ParentState::variant(&mut value, &mut names);
     let mut builder = ObjectBuilder::new(state, true);
     for (name, child) in fields {
-        builder.insert_bytes(name, child.clone());
+        builder.insert_bytes(name, child);
     }
     builder.finish();
     value.into_inner()
@@ -444,8 +447,7 @@ impl<R: Reader> Composed<'_, '_, R> {
             return Ok(());
         }
         let names = self.fields.iter().map(|field| self.name(field));
-        let fields: Vec<Named> = names.zip(children.iter().cloned()).collect();
-        let theirs = built(self.metadata, &fields);
+        let theirs = built(self.metadata, names.zip(children.iter().cloned()));
         if theirs != self.object {
             return differ("the builder's bytes", shown(self.object), shown(&theirs));
         }

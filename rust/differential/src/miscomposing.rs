@@ -213,7 +213,7 @@ impl Miscomposing<'_> {
             Some(Fault::DoublesAtTheEarlier) => first_again(named.iter().map(|&(_, name)| name))
                 .and_then(|at| named.iter().position(|&(_, name)| name == named[at].1)),
             Some(Fault::DoublesByName) => doubles().min_by_key(|&at| (named[at].1, at)),
-            Some(Fault::LastBadPair) => doubles().last(),
+            Some(Fault::LastBadPair) => doubles().next_back(),
             Some(Fault::DoublesByEight) => {
                 first_again(named.iter().map(|&(_, name)| &name[..name.len().min(8)]))
             }

@@ -132,11 +132,9 @@ fn objects_about_the_limit() {
 fn what_the_builder_of_objects_writes() {
     let metadata = VariantMetadata::try_new(SORTED).unwrap();
     let written = |fields: &[(&str, i8)]| {
-        let fields: Vec<_> = fields
-            .iter()
-            .map(|&(name, number)| (name, Variant::Int8(number)))
-            .collect();
-        hex(&composing::built(&metadata, &fields))
+        let fields = fields.iter();
+        let fields = fields.map(|&(name, number)| (name, Variant::Int8(number)));
+        hex(&composing::built(&metadata, fields))
     };
     assert_eq!(written(&[]), "020000");
     let in_order = written(&[("flow", 1), ("roll", 2)]);

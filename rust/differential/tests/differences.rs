@@ -595,15 +595,9 @@ fn a_dictionary_over_the_limit() {
 fn both_composed(fields: &[(&str, &[u8])]) -> (Vec<u8>, Result<Vec<u8>, Refusal>) {
     let metadata = VariantMetadata::try_new(SORTED).expect("D");
     let value = |bytes| Variant::try_new_with_metadata(metadata.clone(), bytes).expect("a value");
-    let named: Vec<_> = fields
-        .iter()
-        .map(|&(name, child)| (name, value(child)))
-        .collect();
+    let named = fields.iter().map(|&(name, child)| (name, value(child)));
     let ours: ObjectWriter = fields.iter().copied().collect();
-    (
-        composing::built(&metadata, &named),
-        ours.finish_over(SORTED),
-    )
+    (composing::built(&metadata, named), ours.finish_over(SORTED))
 }
 
 /// The builder lays children in the order in which they come, and ours in that of the names. Two fields
@@ -646,7 +640,7 @@ fn fields_of_one_name() {
 fn the_second_entry_of_a_name() {
     let dict = [1, 2, 0, 0, 0];
     let metadata = VariantMetadata::try_new(&dict).expect("two names");
-    let theirs = composing::built(&metadata, &[("", Variant::Null)]);
+    let theirs = composing::built(&metadata, [("", Variant::Null)]);
     assert_eq!(theirs, [2, 1, 0, 0, 1, 0]);
     let ours = lichenhusk::write_object(&dict, [(1, [0])]);
     assert_eq!(ours, Ok(vec![2, 1, 1, 0, 1, 0]));

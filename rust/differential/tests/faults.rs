@@ -81,11 +81,15 @@ fn the_archive_passes() {
 /// Objects are written, as the Rust's builder does it and otherwise, in other orders and with too little
 /// scratch and room, and each refusal is seen.
 fn objects_of_every_kind_are_seen(tally: &Tally) {
-    for (number, least) in [(0, 4_000), (20, 1), (25, 5_000), (26, 5_000)] {
-        let seen = tally.composed.get(&number);
-        assert!(seen.is_some_and(|&seen| seen > least), "{number}: {seen:?}");
-    }
-    for (number, least) in [(45, 2_000), (28, 500)] {
+    let numbers = [
+        (0, 2_000),
+        (20, 1),
+        (25, 2_000),
+        (26, 2_000),
+        (28, 200),
+        (45, 1_000),
+    ];
+    for (number, least) in numbers {
         let seen = tally.composed.get(&number);
         assert!(seen.is_some_and(|&seen| seen > least), "{number}: {seen:?}");
     }
