@@ -9,22 +9,17 @@ use Rattle.dictionary.specs.declared.Head.the-variants as head
 use Rattle.metadata.specs.Steps.{CheckedOf}
 use Rattle.source.specs.declared.Source.the-variants as source
 use Rattle.source.specs.Pairs.{pairs}
-use Rattle.source.specs.Names.{Entries, GoodRanges}
+use Rattle.source.specs.Names.{Entries}
 use Rattle.pick.specs.declared.Plan.{Plan}
 use Rattle.pick.specs.Pick as pick
 use Rattle.pairs.specs.Checks.{pairName}
 use Rattle.builder.specs.Bytes.{children, startFor}
 
--- the pairs passed their checks, over a dictionary that passed its own
-pub record Checked (d bytes words : List ℕ) (h : Header) : Type 0 where
+-- pairs of entries of a checked dictionary, no name twice, and their order is known
+pub record Ready (d words order : List ℕ) (plan : Plan) (h : Header) : Type 0 where
   pub over : CheckedOf d (head.Good h)
   pub entries : Entries d words
   pub distinct : Distinct (pairName d words) 0 (pairs words)
-  pub ranges : GoodRanges bytes words
-
--- and their order is known
-pub record Ready (d bytes words order : List ℕ) (plan : Plan) (h : Header) : Type 0 where
-  pub checked : Checked d bytes words h
   pub planned : pick.Planned d words (source.Pairs h) order plan
 
 -- where all has room

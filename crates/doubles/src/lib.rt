@@ -57,6 +57,28 @@ fn search(run: &[u8], words: &[u32], kind: Source) -> Doubles
     Doubles::None(Plan::Searched)
 }
 
+// How many names the first numbers have, each once: they are sorted in scratch.
+fn count_names(
+    run: &[u8],
+    words: &[u32],
+    many: usize,
+    order: &mut [u32],
+    spare: &mut [u32],
+    kind: Source,
+) -> usize
+    requires { ⌜ Sound (now run) (now words) kind × (many ≤ countOf (now words) kind) × (many ≤ length (now order)) × (many ≤ length (now spare)) × (countOf (now words) kind < 4294967296) ⌝ }
+    ensures { λ r. ⌜ r ≡ length (collect (nameOf (now (run .entry)) (now (words .entry)) kind) 0 many) ⌝ }
+{
+    sort::sort(
+        run,
+        words,
+        0,
+        &mut order[0..many],
+        &mut spare[0..many],
+        kind,
+    )
+}
+
 // By halving, where there is a double: of the numbers up to `low` no two have one name, of those up to `high` some do.
 fn halve(
     run: &[u8],
@@ -73,15 +95,7 @@ fn halve(
     let mut high = n;
     while 1 < high - low {
         let middle = low + (high - low) / 2;
-        let m = sort::sort(
-            run,
-            words,
-            0,
-            &mut order[0..middle],
-            &mut spare[0..middle],
-            kind,
-        );
-        if m < middle {
+        if count_names(run, words, middle, order, spare, kind) < middle {
             high = middle;
         } else {
             low = middle;

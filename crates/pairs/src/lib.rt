@@ -1,6 +1,6 @@
 // Pairs that are given to be written as fields: 25, 45 and 28, and the largest id (document 02, k).
 ghost use mathlib.Core.Path.{_≡_};
-ghost use Prim.Native.Nat.{_<_, max};
+ghost use Prim.Native.Nat.{_<_, max, min};
 ghost use lib.ListN.{length};
 ghost use Rattle.dictionary.specs.Dictionary.{count as countOf};
 ghost use Rattle.source.specs.Pairs.{pairs};
@@ -65,6 +65,15 @@ fn judge(bytes: &[u8], words: &[u32], k: usize) -> Child
     Child::Good
 }
 
+fn smaller(a: usize, b: usize) -> usize
+    ensures { λ r. ⌜ r ≡ min a b ⌝ }
+{
+    if a < b {
+        return a;
+    }
+    b
+}
+
 // The first pair whose child's range falls or passes the bytes; where there is none, the first whose child has no byte.
 pub enum Children {
     Outside(usize),
@@ -77,6 +86,7 @@ pub fn check_children(bytes: &[u8], words: &[u32]) -> Children
     ensures { λ r. ⌜ ChildrenOf (now (bytes .entry)) (now (words .entry)) r ⌝ }
 {
     let n = words.len() / 3;
+    // as long as there is none, n
     let mut empty = n;
     let mut k = 0;
     while k < n {
@@ -86,9 +96,7 @@ pub fn check_children(bytes: &[u8], words: &[u32]) -> Children
                 return Children::Outside(k);
             }
             Child::Empty => {
-                if empty == n {
-                    empty = k;
-                }
+                empty = smaller(empty, k);
                 k += 1;
             }
             Child::Good => {

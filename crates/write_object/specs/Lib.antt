@@ -3,3 +3,4 @@ pub mod Meaning
 pub mod Answers
 pub mod Promises
 pub mod Steps
+pub mod Worked

@@ -15,14 +15,6 @@ use Rattle.builder.specs.Bytes.{object, start, size}
 
 -- THE CHECKS, IN ORDER
 
--- of the pairs: 25, 26, 45, 28, each over all of them before the next
-unfoldable pub pairChecks : List ℕ → List ℕ → List ℕ → Found
-pairChecks d bytes words =
-    idChecks d words
-    orElse doubles.checks (pairName d words) (pairs words)
-    orElse rangeChecks bytes words
-    orElse emptyChecks words
-
 -- of the result: 20 for one over the limit, 46 for room below the needed size
 abbrev pub sizeRules : ℕ → ℕ → List Rule
 sizeRules needed room =
@@ -33,11 +25,14 @@ sizeRules needed room =
 unfoldable pub sizeChecks : ℕ → List ℕ → Found
 sizeChecks needed room = first (sizeRules needed (length room))
 
--- the dictionary's come first
+-- the dictionary's come first; then 25, 26, 45 and 28, each over all pairs before the next
 unfoldable pub checks : List ℕ → List ℕ → List ℕ → List ℕ → Found
 checks d bytes words room =
     dictionary.checks d
-    orElse pairChecks d bytes words
+    orElse idChecks d words
+    orElse doubles.checks (pairName d words) (pairs words)
+    orElse rangeChecks bytes words
+    orElse emptyChecks words
     orElse sizeChecks (size d bytes words) room
 
 -- ANSWERS

@@ -16,7 +16,7 @@ write-dictionary-spec =
     lent-names _ _ (good-ends _ _ (good _ _ .0 (sym e))) .sound)  -- plan-for-requires
     (λ c κs. let m = c .before .before .before .before .before .before in
     let e = rw (m .before .before .before .enum-told .given .1) at (m .before .before .before .before .before .check .ensures) in
-    (good-ends _ _ (good _ _ .0 (sym e)), m .plan-for .ensures))  -- finish-requires
+    (good-ends _ _ (good _ _ .0 (sym e)), m .plan-for .ensures .0))  -- finish-requires
     (λ c. refused-name _ _ _ _ (rw (c .before .checked .given .1) at (c .before .before .before .check .ensures)))  -- returns
     (λ c. c .before .before .before .before .before .before .before .before .before .plan-for .kept .1 .1 .0)  -- same-length
     (λ c. c .before .before .before .before .before .before .before .before .before .plan-for .kept .1 .1 .1 .0)  -- same-length-2
