@@ -10,7 +10,7 @@ use Rattle.pairs.specs.Meaning.{SomeBytes, NoEntry, BadRange, EmptyChild
 
 -- 25
 module _ (d words : List ℕ) where
-  ids-mean : Meant (Entries d words) (λ c p. (25 ≡ c) × NoEntry d words p) (idChecks d words)
+  pub ids-mean : Meant (Entries d words) (λ c p. (25 ≡ c) × NoEntry d words p) (idChecks d words)
   unfolding idChecks idRules
   ids-mean =
       meant-map (λ all k q. all k q .0) (λ c p b. b)
@@ -30,7 +30,7 @@ module _ (d words : List ℕ) where
 
 -- 45
 module _ (bytes words : List ℕ) where
-  ranges-mean : Meant (GoodRanges bytes words) (λ c p. (45 ≡ c) × BadRange bytes words p) (rangeChecks bytes words)
+  pub ranges-mean : Meant (GoodRanges bytes words) (λ c p. (45 ≡ c) × BadRange bytes words p) (rangeChecks bytes words)
   unfolding rangeChecks rangeRules
   ranges-mean =
       meant-map (λ all k q. record { rises = all k q .0 .0; inside = all k q .0 .1 }) (λ c p b. b)
@@ -60,7 +60,7 @@ module _ (bytes words : List ℕ) where
 
 -- 28
 module _ (words : List ℕ) where
-  empties-mean : Meant (SomeBytes words) (λ c p. (28 ≡ c) × EmptyChild words p) (emptyChecks words)
+  pub empties-mean : Meant (SomeBytes words) (λ c p. (28 ≡ c) × EmptyChild words p) (emptyChecks words)
   unfolding emptyChecks emptyRules
   empties-mean =
       meant-map (λ all k q. all k q .0) (λ c p b. b)
