@@ -1,6 +1,6 @@
 /*
  * Lichenhusk: a proved reader of the Variant binary encoding of Apache Parquet, and
- * a writer of its dictionaries.
+ * a writer of its dictionaries and objects.
  *
  * A Variant comes as two buffers: a dictionary of field names (the encoding's
  * "metadata") and a value. These functions read the dictionary, one layer of an
@@ -8,8 +8,9 @@
  * into the object's children, but for how long each is, where the fields are
  * listed; a child that is handed to lichenhusk_value is read as any value. Two
  * functions go further: lichenhusk_tree checks a value with all that is below it,
- * and lichenhusk_path follows a path such as site.meter[2] into one. And one writes:
- * lichenhusk_write_dictionary makes a dictionary of names.
+ * and lichenhusk_path follows a path such as site.meter[2] into one. And two write:
+ * lichenhusk_write_dictionary makes a dictionary of names, and
+ * lichenhusk_write_object an object of fields over a dictionary.
  *
  * Every function takes whatever bytes its buffers hold, keeps nothing,
  * allocates nothing and ends. It reads only the buffers that it is handed, and
@@ -24,7 +25,7 @@
  *     of some variable.
  *   - A buffer that is written (strip, words, marks, names of a path, order,
  *     spare, room) shares no memory with another buffer of the same call.
- *   - words, ends, order and spare are aligned as a uint32_t is.
+ *   - words, ends, pairs, order and spare are aligned as a uint32_t is.
  *
  * THE STRIP. The answer goes to the first LICHENHUSK_STRIP_BYTES of a buffer of
  * yours: six numbers of 32 bits, each with its lowest byte first, whatever the
@@ -35,7 +36,7 @@
  *   bytes  8 to 11   the id: the dictionary's entry that is a found field's name
  *   bytes 12 to 15   start; of a value that is a number, the low half of its bits
  *   bytes 16 to 19   end (the first byte that no longer belongs); of such a value,
- *                    the high half; of a dictionary that is written, its length
+ *                    the high half; of what is written, its length
  *   bytes 20 to 23   the place of a refusal
  *
  * A word that has no use in an answer is 0; on a refusal, all but the code and
@@ -118,6 +119,8 @@ enum {
     LICHENHUSK_WORDS_PER_NAME = 5,
     /* The words for each step of a path: 0, start, end; or 1, low, high. */
     LICHENHUSK_WORDS_PER_STEP = 3,
+    /* The words for each pair that an object is written of: id, start, end. */
+    LICHENHUSK_WORDS_PER_PAIR = 3,
     /* The bytes of the empty dictionary. */
     LICHENHUSK_EMPTY_BYTES = 3,
     /* The most objects and lists that may stand in one another in a tree. */
@@ -147,7 +150,11 @@ enum lichenhusk_word_index {
  * Of a tree, an object or a list has its own checks before its children, and its
  * children come in their order, each with all that is below it. Of a path, 70 to
  * 76 come before the dictionary, and then the value is checked step by step. Of a
- * dictionary that is written, 45 of all names comes first, then 10, and 46 last.
+ * dictionary that is written, 45 of all names comes first, then 10, and 46 last. Of
+ * an object that is written, the dictionary comes first; then each of 25, 26, 45 and
+ * 28, in this order, is looked for in all pairs before the next is; then 20, and 46
+ * last. The place of these four is the pair, counted from 0 (of more than
+ * 4,294,967,296 pairs, that number's low 32 bits).
  */
 enum lichenhusk_code {
     /* Accepted, found, or written. */
@@ -184,7 +191,7 @@ enum lichenhusk_code {
      * was cut; ask for the rest. Checked where 16 is, and the place is 16's. */
     LICHENHUSK_DICTIONARY_TEXT_CUT = 19,
 
-    /* The object is longer than LICHENHUSK_LIMIT. */
+    /* The object is longer than LICHENHUSK_LIMIT, or the one to be written would be. */
     LICHENHUSK_OBJECT_TOO_LONG = 20,
     /* The object has no bytes. */
     LICHENHUSK_OBJECT_EMPTY = 21,
@@ -194,16 +201,20 @@ enum lichenhusk_code {
     LICHENHUSK_OBJECT_SHORT = 23,
     /* The object's count or last offset asks for a place above 4,294,967,295. */
     LICHENHUSK_OBJECT_OVERFLOW = 24,
-    /* A field's id names no entry of the dictionary. The place: the field. */
+    /* A field's id names no entry of the dictionary, or a pair's does. The place: the
+     * field, or the pair. */
     LICHENHUSK_OBJECT_ID = 25,
     /* A field's name is not above the name of the field before. The place: the
-     * field. */
+     * field. Of an object to be written: a pair has the name of an earlier one,
+     * whichever entries the two are. The place: the later pair. */
     LICHENHUSK_OBJECT_ORDER = 26,
     /* A field's offset is above the length of the children's bytes. The place:
      * the field. */
     LICHENHUSK_OBJECT_OFFSET = 27,
     /* A field's child has no bytes: its offset is the length of the children's
-     * bytes. The place: the field. Of 27 and 28 the first field's is given. */
+     * bytes. The place: the field. Of 27 and 28 the first field's is given. Of an
+     * object to be written: a pair's child starts where it ends. The place: the
+     * pair. */
     LICHENHUSK_OBJECT_CHILD_EMPTY = 28,
 
     /* The dictionary has no entry of that number. */
@@ -225,10 +236,11 @@ enum lichenhusk_code {
     /* Of many names, one has an end that falls below where the name begins, or
      * that passes the run of names; or, of names to be written, it is not UTF-8.
      * The place: the name, counted from 0 (of more than 4,294,967,296 ends, that
-     * number's low 32 bits). */
+     * number's low 32 bits). Of an object to be written: a pair's end is below its
+     * start, or passes the bytes that are lent. The place: the pair. */
     LICHENHUSK_NAMES_END = 45,
-    /* Fewer bytes of room than the dictionary to be written has. None of them is
-     * written. */
+    /* Fewer bytes of room than the dictionary, or the object, to be written has. None
+     * of them is written. */
     LICHENHUSK_WRITE_NO_ROOM = 46,
 
     /* The value has no bytes, its header is cut, or its own length passes its
@@ -638,6 +650,73 @@ uint32_t lichenhusk_write_dictionary(const uint8_t *run, size_t run_len,
                                      uint32_t *spare, size_t spare_len,
                                      uint8_t *room, size_t room_len,
                                      uint8_t *strip, size_t strip_len);
+
+/*
+ * Checks the dictionary, and writes an object over it: one layer, of fields whose
+ * children's bytes are given. A field is a pair of three words: its id, which is the
+ * entry of the dictionary that is its name, and where its child starts and ends in
+ * bytes (the first byte that no longer belongs). Pairs may come in any order: the
+ * same ones give the same bytes. They may lend the same bytes, or overlapping ones,
+ * which are written for each. One or two words left over after the last whole pair
+ * are ignored. pairs_len, order_len and spare_len count words.
+ *
+ * The object has its fields in the order of their names, by their bytes; its children
+ * in that order, without gaps; its ids in the fewest bytes, 1 to 4, that hold the
+ * largest of them, its offsets in the fewest that hold the length of all children
+ * together; and four bytes for the count where there are more than 255 fields. Of no
+ * pairs it is 02 00 00. What the children say is not looked at: where each is a good
+ * tree over this dictionary, of fewer than LICHENHUSK_LEVELS levels, the object is one.
+ *
+ * 0: the object is the first bytes of room, and bytes after it stay as they are.
+ *    number is how many fields it has, start is where the children's bytes begin,
+ *    and end is its length. It is read back: lichenhusk_layer accepts it with the
+ *    same three, and lichenhusk_lookup finds each name, in bytes that begin with its
+ *    child, and no other name.
+ * Otherwise a refusal, which leaves room as it is, in this order, each looked for in
+ * all pairs before the next, and given at the first such pair:
+ *      10 to 19 of the dictionary
+ *      25, the id names no entry
+ *      26, the name is that of an earlier pair. Entries of one name, which a
+ *          dictionary that is not sorted may have, are one name
+ *      45, the end is below the start, or passes bytes
+ *      28, the end is the start: a child has a byte at least
+ *      20, the object would be longer than LICHENHUSK_LIMIT
+ *      46, room is shorter than the object
+ * or 40, with which nothing at all is written. Nothing else is refused. A room of
+ * 9 bytes, 8 for each pair and those of all children together always does, and so
+ * does one of LICHENHUSK_LIMIT bytes.
+ *
+ * ORDER AND SPARE are scratch, as of lichenhusk_write_dictionary: they make it fast,
+ * and change no answer. Each is any number of words, 0 too, which hold anything
+ * before; what they hold afterwards is not said, under a refusal neither. With a word
+ * for each pair, pairs_len / 3, or more in both, the pairs are sorted there: the time
+ * grows with the dictionary, with the object, and as that of sorting, with n log n
+ * for n pairs, whatever order they come in. With fewer in either, each next name is
+ * looked for among all: scratch is not written then (which is tested, and not
+ * proved), and the time grows with the square of n.
+ *
+ * With the example's dictionary, this prints "2 fields, 10 bytes":
+ *
+ *   const uint8_t bytes[] = {0x04, 0x0C, 0xFB};
+ *   const uint32_t pairs[] = {1, 0, 1, 0, 1, 3};
+ *   uint32_t order[2], spare[2];
+ *   uint8_t room[9 + 8 * 2 + sizeof bytes];
+ *
+ *   if (lichenhusk_write_object(dict, sizeof dict, bytes, sizeof bytes,
+ *                               pairs, 2 * LICHENHUSK_WORDS_PER_PAIR,
+ *                               order, 2, spare, 2, room, sizeof room,
+ *                               strip, sizeof strip) == LICHENHUSK_OK)
+ *       printf("%u fields, %u bytes\n",
+ *              (unsigned) lichenhusk_word(strip, LICHENHUSK_NUMBER),
+ *              (unsigned) lichenhusk_word(strip, LICHENHUSK_END));
+ */
+uint32_t lichenhusk_write_object(const uint8_t *dict, size_t dict_len,
+                                 const uint8_t *bytes, size_t bytes_len,
+                                 const uint32_t *pairs, size_t pairs_len,
+                                 uint32_t *order, size_t order_len,
+                                 uint32_t *spare, size_t spare_len,
+                                 uint8_t *room, size_t room_len,
+                                 uint8_t *strip, size_t strip_len);
 
 /*
  * Writes the empty dictionary, the bytes 01 00 00, to the first three bytes of

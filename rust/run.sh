@@ -9,6 +9,7 @@
 #   run.sh trees      the trees of these alone
 #   run.sh paths      the paths of these alone
 #   run.sh writing    the dictionaries that are written alone
+#   run.sh objects    the objects that are written alone
 #   run.sh replay N   answers of the Rust's, N lines at most, on standard output
 #   run.sh bench      the clock: all tables, or the one of a word
 #
@@ -95,7 +96,7 @@ case $task in
     has_source
     compare long "$@"
     ;;
-  trees | paths | writing)
+  trees | paths | writing | objects)
     has_cargo
     has_source
     compare "$task" "$@"
@@ -112,7 +113,7 @@ case $task in
     target/measured/bench "$@"
     ;;
   *)
-    sed -n '2,16p' run.sh | cut -c3- >&2
+    sed -n '2,17p' run.sh | cut -c3- >&2
     exit 2
     ;;
 esac

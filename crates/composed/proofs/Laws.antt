@@ -1,6 +1,6 @@
 -- What is written of the parts is written of the lines, and within the room. Assumes nothing.
 use Rattle.rules.proofs.Prelude.{_≡_, List, ℕ, _-_, _≤_, arith, length, take, length-take}
-use Rattle.fill.specs.Bytes.{joined}
+use Rattle.lay.specs.Bytes.{joined}
 use Rattle.write.specs.Writing.{roomAfter}
 use Rattle.write.specs.Meaning.{Refusal}
 use Rattle.write.specs.Meaning.Refusal.{bad-name, too-long, no-room}

@@ -5,7 +5,7 @@ ghost use Prim.Native.Nat.{_≤_};
 ghost use lib.ListN.{length};
 ghost use Rattle.write.specs.Writing.{roomAfter};
 ghost use Rattle.lichenhusk.specs.Strip.{writeWords};
-ghost use Rattle.fill.specs.Bytes.{joined};
+ghost use Rattle.lay.specs.Bytes.{joined};
 ghost use Rattle.split.specs.Lines.{linesOf, endsOf};
 ghost use Rattle.answers.specs.Numbers.{numbersOf};
 use answers::Answer;

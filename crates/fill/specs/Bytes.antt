@@ -1,16 +1,11 @@
 -- A sorted dictionary's bytes from its names in their order (document 02, j; document 01, "Dictionary bytes"). Assumes nothing.
-use mathlib.Core.Bool.{cond}
 use mathlib.Core.List.{List, [], _∷_, _++_}
 use Prim.Native.Nat.{ℕ, _+_, _-_, _*_, max}
-use lib.Dec.{ltb}
 use lib.ListN.{length}
 use Rattle.width.specs.Width.{bytesOf}
 use Rattle.put.specs.Numbers.{numbers}
 use Rattle.sets.specs.Sets.{total}
-
--- the smallest width that holds a number of 32 bits
-unfoldable pub widthOf : ℕ → ℕ
-widthOf n = cond (ltb n 0x100) 1 (cond (ltb n 0x10000) 2 (cond (ltb n 0x1000000) 3 4))
+use Rattle.lay.specs.Bytes.{widthOf, offsets, joined}
 
 -- the smallest width that holds both the count and the total length
 unfoldable pub widthFor : List (List ℕ) → ℕ
@@ -19,16 +14,6 @@ widthFor names = widthOf (max (length names) (total names))
 -- Byte 0: the version, 1; bit 0x10, sorted; bit 0x20 is 0; the width less 1 in the top two bits
 abbrev pub lead : ℕ → ℕ
 lead w = 0x11 + 64 * (w - 1)
-
--- where each name starts, from o on, and where the last one ends
-unfoldable pub offsets : ℕ → List (List ℕ) → List ℕ
-offsets o [] = o ∷ []
-offsets o (x ∷ xs) = o ∷ offsets (o + length x) xs
-
--- the names one after another
-unfoldable pub joined : List (List ℕ) → List ℕ
-joined [] = []
-joined (x ∷ xs) = x ++ joined xs
 
 -- the first byte, the count, the offsets, the names
 abbrev pub layout : ℕ → List (List ℕ) → List ℕ

@@ -6,4 +6,5 @@ pub use Rattle.value_call.specs.Promises.{valueWords}
 pub use Rattle.tree_call.specs.Promises.{treeWords}
 pub use Rattle.path_call.specs.Promises.{pathWords}
 pub use Rattle.write_call.specs.Promises.{writeWords}
+pub use Rattle.write_object_call.specs.Promises.{writeObjectWords}
 unfoldable pub use Rattle.strip.specs.Strip.{returned, stripAfter, filledAfter}

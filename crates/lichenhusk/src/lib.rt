@@ -1,5 +1,5 @@
 // What a host calls through C: each answer as a strip of six little-endian u32 (include/lichenhusk.h).
-ghost use Rattle.lichenhusk.specs.Promises.{LookupPromise, AllPromise, DictionaryPromise, NamePromise, LayerPromise, ListPromise, ValuePromise, TreePromise, PathPromise, WritePromise, EmptyPromise};
+ghost use Rattle.lichenhusk.specs.Promises.{LookupPromise, AllPromise, DictionaryPromise, NamePromise, LayerPromise, ListPromise, ValuePromise, TreePromise, PathPromise, WritePromise, WriteObjectPromise, EmptyPromise};
 
 // Lookup by name: field, id, start, end.
 #[no_mangle]
@@ -115,6 +115,23 @@ pub extern "C" fn lichenhusk_write_dictionary(
     ensures { λ r. ⌜ WritePromise (now (run .entry)) (now (ends .entry)) (now (room .entry)) (now (strip .entry)) r (now (strip .exit)) (now (room .exit)) ⌝ }
 {
     write_call::write_dictionary(run, ends, order, spare, room, strip)
+}
+
+// An object layer from pairs over a dictionary, to the front of the room: field count, 0, region start, its length. `order` and `spare` are
+// scratch.
+#[no_mangle]
+pub extern "C" fn lichenhusk_write_object(
+    dict: &[u8],
+    bytes: &[u8],
+    pairs: &[u32],
+    order: &mut [u32],
+    spare: &mut [u32],
+    room: &mut [u8],
+    strip: &mut [u8],
+) -> u32
+    ensures { λ r. ⌜ WriteObjectPromise (now (dict .entry)) (now (bytes .entry)) (now (pairs .entry)) (now (room .entry)) (now (strip .entry)) r (now (strip .exit)) (now (room .exit)) ⌝ }
+{
+    write_object_call::write_object(dict, bytes, pairs, order, spare, room, strip)
 }
 
 // The empty dictionary: 0, or 42 below three bytes of room.

@@ -7,8 +7,8 @@ use Rattle.put.proofs.Laws.{sets-append}
 use Rattle.text.specs.Text.{before}
 use Rattle.text.specs.Steps.{Reaches}
 use Rattle.sets.specs.Sets.{total}
-use Rattle.fill.specs.Bytes.{joined}
-use Rattle.fill.proofs.Laws.{joined-length}
+use Rattle.lay.specs.Bytes.{joined}
+use Rattle.lay.proofs.Laws.{joined-length}
 use Rattle.split.specs.declared.Names.{Names}
 use Rattle.split.specs.Lines.{newline, with, linesOf, endsOf}
 use Rattle.split.specs.Promises.{GatherPromise}

@@ -5,7 +5,7 @@ use mathlib.Core.List.{List, _++_}
 use Prim.Native.Nat.{ℕ}
 use lib.ListN.{length, drop}
 use Rattle.sets.specs.Sets.{total}
-use Rattle.fill.specs.Bytes.{joined}
+use Rattle.lay.specs.Bytes.{joined}
 use Rattle.split.specs.declared.Names.{Names}
 use Rattle.split.specs.Lines.{linesOf, endsOf}
 

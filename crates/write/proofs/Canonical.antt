@@ -9,7 +9,8 @@ use Rattle.given.proofs.Means.{good}
 use Rattle.sets.specs.Sets.{total, collect}
 use Rattle.source.specs.Names.{countOf}
 use Rattle.pick.specs.Pick as pick
-use Rattle.fill.specs.Bytes.{widthOf, widthFor, offsets, joined, dictionary}
+use Rattle.lay.specs.Bytes.{widthOf, offsets, joined}
+use Rattle.fill.specs.Bytes.{widthFor, dictionary}
 use Rattle.fill.specs.Steps.{listOf}
 use Rattle.write.specs.Writing.{checks, written, roomAfter}
 use Rattle.write.specs.Meaning.{Named}

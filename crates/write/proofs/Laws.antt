@@ -4,9 +4,13 @@ use Rattle.rules.proofs.Prelude.{_≡_, sym, _∙_, List, [], ℕ, _+_, _*_, _�
 use Rattle.rules.proofs.Prelude.{refuse, pass, stop, first-at, first-pass, refused, answered, stops, goes}
 use Rattle.dictionary.specs.Limits.{limit}
 use Rattle.given.specs.Given as given
-use Rattle.fill.specs.Bytes.{widthOf, widthFor, layout, dictionary, size}
-use Rattle.fill.specs.Steps.{listOf, SizesOf, Laid}
-use Rattle.fill.proofs.Laws.{width-some, width-few, size-is}
+use Rattle.sets.specs.Sets.{total}
+use Rattle.lay.specs.Bytes.{widthOf}
+use Rattle.fill.specs.Bytes.{widthFor, layout, dictionary, size}
+use Rattle.lay.specs.Steps.{SizesOf}
+use Rattle.fill.specs.Steps.{listOf, Laid}
+use Rattle.lay.proofs.Laws.{width-some, width-few}
+use Rattle.fill.proofs.Laws.{size-is, size-count, size-total}
 use Rattle.write.specs.declared.Written.{Written}
 use Rattle.write.specs.declared.Written.the-variants as answer
 use Rattle.write.specs.Writing.{sizeChecks, checks, written, roomAfter}
@@ -51,6 +55,9 @@ module _ {names : List (List ℕ)} {count sum : ℕ} (s : SizesOf names count su
 pub too-long : (names : List (List ℕ)) (room : List ℕ) → limit < size names → sizeChecks names room ≡ stop 10 0
 unfolding sizeChecks
 too-long names room h = first-at 0 _ h
+
+pub names-long : (names : List (List ℕ)) → limit < max (length names) (total names) → limit < size names
+names-long names h = omega (arith, h, size-count names, size-total names)
 
 pub no-room : (names : List (List ℕ)) (room : List ℕ) → size names ≤ limit → length room < size names → sizeChecks names room ≡ stop 46 0
 unfolding sizeChecks

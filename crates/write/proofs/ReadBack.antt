@@ -17,9 +17,11 @@ use Rattle.run.specs.Run as run
 use Rattle.given.specs.Meaning.{GoodNames}
 use Rattle.sets.specs.Sets.{In, Increasing, total}
 use Rattle.sets.proofs.Laws.{at-in, in-at, rising, total-next, total-part}
-use Rattle.fill.specs.Bytes.{widthFor, joined, layout, dictionary, size}
+use Rattle.lay.specs.Bytes.{joined}
+use Rattle.fill.specs.Bytes.{widthFor, layout, dictionary, size}
 use Rattle.fill.specs.Steps.{listOf}
-use Rattle.fill.proofs.Laws.{joined-length, layout-length}
+use Rattle.lay.proofs.Laws.{joined-length}
+use Rattle.fill.proofs.Laws.{layout-length}
 use Rattle.write.specs.Meaning.{Named}
 use Rattle.write.proofs.TheList.{the-list}
 use Rattle.write.proofs.Smallest.{Smallest, smallest}

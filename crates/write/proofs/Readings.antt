@@ -11,8 +11,10 @@ use Rattle.put.proofs.Numbers.{le-numbers}
 use Rattle.dictionary.specs.Dictionary.{version, sorted, width, count, offset, start, end, region, name}
 use Rattle.sets.specs.Sets.{total}
 use Rattle.sets.proofs.Laws.{total-part}
-use Rattle.fill.specs.Bytes.{lead, offsets, joined, layout}
-use Rattle.fill.proofs.Laws.{offsets-count, offsets-length, joined-length, layout-length}
+use Rattle.lay.specs.Bytes.{offsets, joined}
+use Rattle.fill.specs.Bytes.{lead, layout}
+use Rattle.lay.proofs.Laws.{offsets-count, offsets-length, joined-length}
+use Rattle.fill.proofs.Laws.{layout-length}
 use Rattle.write.proofs.Smallest.{Smallest}
 
 -- OFFSET k is the length of the names before it

@@ -4,7 +4,8 @@ use native.Mathlib.Nat.{le-max-left, le-max-right, pow-le-pow-right}
 use Rattle.rules.proofs.Prelude.{_≡_, refl, Bool, true, false, cond, List, ℕ, suc, _≤_, _<_, decLt, arith, ltb, ltb-true, ltb-false, length}
 use Rattle.dictionary.specs.Limits.{limit}
 use Rattle.sets.specs.Sets.{total}
-use Rattle.fill.specs.Bytes.{widthOf, widthFor, size}
+use Rattle.lay.specs.Bytes.{widthOf}
+use Rattle.fill.specs.Bytes.{widthFor, size}
 use Rattle.fill.proofs.Laws.{size-count, size-total}
 
 -- a number that fits no w bytes fits no fewer

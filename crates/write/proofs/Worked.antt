@@ -12,7 +12,8 @@ use Rattle.given.specs.Given as given
 use Rattle.sets.specs.Sets.{insert, collect, total}
 use Rattle.source.specs.Names.{nameOf, countOf}
 use Rattle.pick.specs.Pick.{listOf}
-use Rattle.fill.specs.Bytes.{widthOf, widthFor, offsets, joined, dictionary, size}
+use Rattle.lay.specs.Bytes.{widthOf, offsets, joined}
+use Rattle.fill.specs.Bytes.{widthFor, dictionary, size}
 use Rattle.write.specs.Writing.{sizeChecks, checks, written, roomAfter}
 use Rattle.write.specs.Worked.{Case, Told, tell, cases}
 

@@ -3,7 +3,7 @@ ghost use Rattle.run.specs.Meaning.{GoodEnds};
 ghost use Rattle.fill.specs.Steps.{listOf, Planned};
 ghost use Rattle.write.specs.Steps.{Finished};
 ghost use Rattle.write.specs.Promises.{DictionaryPromise};
-use fill::Measured;
+use lay::Measured;
 use pick::Plan;
 use run::Ends;
 use source::Source;
@@ -21,7 +21,7 @@ fn finish(run: &[u8], ends: &[u32], order: &[u32], plan: Plan, room: &mut [u8]) 
     requires { ⌜ GoodEnds (now run) (now ends) × Planned (now run) (now ends) (now order) plan ⌝ }
     ensures { λ r. ⌜ Finished (listOf (now (run .entry)) (now (ends .entry))) (now (room .entry)) (now (room .exit)) r ⌝ }
 {
-    let sizes = fill::measure(run, ends, order, plan);
+    let sizes = lay::measure(run, ends, run, order, plan, Source::Ends);
     match sizes {
         Measured::TooLong => Written::TooLong,
         Measured::Sizes { count, sum } => {

@@ -1,7 +1,7 @@
 //! The clock: check and lookup together, the found field's id, its value, UTF-8 alone, many names of
-//! one message, all of its fields, whole trees, paths, dictionaries that are written, and larger messages,
-//! ours and the Rust's, in one process; and, where it is asked for, trees that are made to take long, and
-//! dictionaries of very many names, ours alone.
+//! one message, all of its fields, whole trees, paths, dictionaries and objects that are written, and
+//! larger messages, ours and the Rust's, in one process; and, where it is asked for, trees that are made
+//! to take long, and dictionaries and objects of very many names, ours alone.
 //!
 //! `cargo run --profile measured -p bench`; with `-- large`, or another word of `TABLES`, that
 //! table alone
@@ -12,6 +12,7 @@ mod ids;
 mod large;
 mod listing;
 mod many;
+mod objects;
 mod paths;
 mod rows;
 mod sides;
@@ -27,7 +28,7 @@ use std::process::{Command, exit};
 use std::{env, fs};
 
 /// The tables, in their order, and the word for each.
-const TABLES: [(&str, fn()); 11] = [
+const TABLES: [(&str, fn()); 12] = [
     ("lookup", lookups),
     ("ids", ids_too),
     ("values", values_read),
@@ -38,13 +39,15 @@ const TABLES: [(&str, fn()); 11] = [
     ("trees", whole_trees),
     ("paths", followed_paths),
     ("writing", written_dictionaries),
+    ("objects", written_objects),
     ("large", large_messages),
 ];
 
 /// Tables that are printed only where their word is given: they may take minutes.
-const ALONE: [(&str, fn()); 2] = [
+const ALONE: [(&str, fn()); 3] = [
     ("adversarial", adversarial_trees),
     ("writing-large", large_dictionaries),
+    ("objects-large", large_objects),
 ];
 
 /// What the columns are, to be printed above them.
@@ -139,6 +142,31 @@ is given. Without scratch the time grows with the names times the different ones
 call is likely to take more than half a minute it is not made, and the time that the square of the
 names tells is printed in brackets. Names have twelve letters.";
 
+/// The same for the table of objects that are written.
+const OBJECTS_LEGEND: &str = "\
+An object of fields over a dictionary, written; and both of the same names and children.
+  ours      lichenhusk::write_object_into: dictionary checked, fields sorted, in one call; bytes and
+            pairs are there before, and scratch and room are lent
+  Rust      VariantMetadata::try_new, then ObjectBuilder over a ReadOnlyMetadataBuilder: insert_bytes of
+            each field, and finish; the names are parts of the dictionary, which it finds without
+            comparing them
+  writer    lichenhusk::ObjectWriter: names and children handed over, dictionary and object written
+  builder   VariantBuilder: new_object, insert of each field, and finish of both
+  /field    nanoseconds for each field
+The ratios are ours to the Rust's, and the writer to the builder. Where fields come in no order, the
+Rust leaves its dictionary unsorted and its children as they came. Each child is an eight-bit integer,
+names have twelve letters; each turn writes others. The map that the builder keeps its fields in, and
+the set for its names, are stand-ins for indexmap's, with a table of the library's and its hash
+function.";
+
+/// The same for the table of very many fields.
+const OBJECTS_LARGE_LEGEND: &str = "\
+Objects of very many fields, lichenhusk::write_object_into alone: milliseconds of a call, the least of
+seven, or the one where it takes longer than two seconds; then nanoseconds for each field. Without
+scratch the time grows with the square of the fields: where a call is likely to take more than half a
+minute it is not made, and the time that the square tells is printed in brackets. Names have twelve
+letters, over a sorted dictionary that has no others; each child is an eight-bit integer.";
+
 /// The same for the table of trees that are made to take long.
 const ADVERSARIAL_LEGEND: &str = "\
 Trees that are made to take long, lichenhusk::check_tree alone: milliseconds of a call, the least of
@@ -168,7 +196,7 @@ fn main() {
     let tables = tables(env::args().nth(1).as_deref());
     if tables.is_empty() {
         let words = TABLES.map(|(word, _)| word).join(", ");
-        let alone = ALONE.map(|(word, _)| word).join(" and ");
+        let alone = ALONE.map(|(word, _)| word).join(", ");
         eprintln!("the tables are {words}, and {alone}");
         exit(2);
     }
@@ -274,6 +302,38 @@ fn written_dictionaries() {
     }
 }
 
+/// The table of objects that are written.
+fn written_objects() {
+    println!("{OBJECTS_LEGEND}\n");
+    println!(
+        "{:<28}{:>8}{:>8}{:>12}{:>12}{:>7}{:>12}{:>12}{:>7}{:>9}{:>9}",
+        "row",
+        "dict",
+        "object",
+        "ours",
+        "Rust",
+        "ratio",
+        "writer",
+        "builder",
+        "ratio",
+        "/field",
+        "R/field"
+    );
+    for row in objects::rows() {
+        let [ours, theirs, writer, builder] = objects::measured(&row);
+        let a_field = |nanos: f64| nanos / row.fields as f64;
+        let [dict, object] = row.bytes;
+        println!(
+            "{:<28}{dict:>8}{object:>8}{ours:>12.1}{theirs:>12.1}{:>7.2}{writer:>12.1}{builder:>12.1}{:>7.2}{:>9.1}{:>9.1}",
+            row.label,
+            ours / theirs,
+            writer / builder,
+            a_field(ours),
+            a_field(theirs),
+        );
+    }
+}
+
 /// The table of dictionaries of very many names.
 fn large_dictionaries() {
     println!("{WRITING_LARGE_LEGEND}\n");
@@ -281,25 +341,38 @@ fn large_dictionaries() {
         "{:<42}{:>10}{:>14}{:>10}",
         "names", "given", "ms", "ns/name"
     );
-    writing::larger(|(count, order, has_scratch, taken)| {
-        let scratch = if *has_scratch {
-            ""
-        } else {
-            ", without scratch"
-        };
-        let label = format!("{}{scratch}", order.label());
-        match taken {
-            writing::Taken::Time(time) => println!(
-                "{label:<42}{count:>10}{:>14.3}{:>10.1}",
-                time.as_secs_f64() * 1e3,
-                time.as_secs_f64() * 1e9 / *count as f64,
-            ),
-            writing::Taken::About(time) => println!(
-                "{label:<42}{count:>10}{:>14}",
-                format!("({:.0} s)", time.as_secs_f64())
-            ),
-        }
-    });
+    writing::larger(print_written);
+}
+
+/// The table of objects of very many fields.
+fn large_objects() {
+    println!("{OBJECTS_LARGE_LEGEND}\n");
+    println!(
+        "{:<42}{:>10}{:>14}{:>10}",
+        "fields", "given", "ms", "ns/field"
+    );
+    objects::larger(print_written);
+}
+
+/// A line of these two tables.
+fn print_written((count, order, has_scratch, taken): &writing::Line) {
+    let scratch = if *has_scratch {
+        ""
+    } else {
+        ", without scratch"
+    };
+    let label = format!("{}{scratch}", order.label());
+    match taken {
+        writing::Taken::Time(time) => println!(
+            "{label:<42}{count:>10}{:>14.3}{:>10.1}",
+            time.as_secs_f64() * 1e3,
+            time.as_secs_f64() * 1e9 / *count as f64,
+        ),
+        writing::Taken::About(time) => println!(
+            "{label:<42}{count:>10}{:>14}",
+            format!("({:.0} s)", time.as_secs_f64())
+        ),
+    }
 }
 
 /// The table of trees that are made to take long.

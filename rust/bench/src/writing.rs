@@ -40,7 +40,7 @@ impl Order {
     }
 
     /// So many names of twelve letters; how many are different, the order says.
-    fn names(self, random: &mut Random, count: usize) -> Vec<String> {
+    pub fn names(self, random: &mut Random, count: usize) -> Vec<String> {
         let different = match self {
             Order::Fourfold => count / FOUR,
             Order::Equal => 1,
@@ -193,7 +193,8 @@ pub fn measured(row: &Row) -> [f64; 4] {
     )
 }
 
-/// How many names the dictionaries of the larger table are written of, in which orders.
+/// How many names the dictionaries of the larger table are written of, in which orders; and how many
+/// fields the objects of theirs.
 const LARGE: [usize; 3] = [1_000, 100_000, 1_000_000];
 const LARGE_ORDERS: [Order; 4] = [
     Order::Shuffled,
@@ -216,17 +217,28 @@ pub enum Taken {
     About(Duration),
 }
 
-/// A line of the larger table: how many names, in which order, whether with scratch, and the time.
+/// A line of a larger table: how many names or fields, in which order, whether with scratch, and the
+/// time.
 pub type Line = (usize, Order, bool, Taken);
 
 /// The lines of the larger table, told one after another.
 pub fn larger(tell: impl Fn(&Line)) {
-    for order in LARGE_ORDERS {
+    larger_of(&LARGE_ORDERS, timed, tell);
+}
+
+/// The lines of some orders, timed by a function of how many names, or fields, there are, of the order and
+/// of whether there is scratch.
+pub fn larger_of(
+    orders: &[Order],
+    timed: fn(usize, Order, bool) -> Duration,
+    tell: impl Fn(&Line),
+) {
+    for &order in orders {
         for count in LARGE {
             tell(&(count, order, true, Taken::Time(timed(count, order, true))));
         }
     }
-    for order in LARGE_ORDERS {
+    for &order in orders {
         let mut before = None;
         for count in SLOW {
             let about = before.map_or(Duration::ZERO, |(names, time)| square(names, time, count));
@@ -248,19 +260,22 @@ fn square(names: usize, time: Duration, count: usize) -> Duration {
     time.mul_f64((count as f64 / names as f64).powi(2))
 }
 
-/// The least of some times, or the one where it is long.
 fn timed(count: usize, order: Order, has_scratch: bool) -> Duration {
     let set = Set::of(order.names(&mut Random::seeded(count as u64), count));
     let words = if has_scratch { count } else { 0 };
     let (mut order, mut spare) = (vec![0; words], vec![0; words]);
     let mut room = vec![0; write_dictionary(&set.names).expect("good names").len()];
-    let mut run = || {
+    least(|| {
         let started = Instant::now();
         let written = write_dictionary_into(&set.run, &set.ends, &mut order, &mut spare, &mut room);
         let time = started.elapsed();
         assert_eq!(written.map(|written| written.count), Ok(set.sorted.len()));
         time
-    };
+    })
+}
+
+/// The least of some times, or the one where it is long.
+pub fn least(mut run: impl FnMut() -> Duration) -> Duration {
     let mut least = run();
     for _ in 1..RUNS {
         if least < LONG {

@@ -20,8 +20,9 @@
 //! listing says. The listing has the same ids and starts, and each child's own length as the Rust
 //! tells it, or is refused with 43 for a child that the Rust refuses: [`listing`](crate::listing) has
 //! that. Each child is read as a value, and [`values`](crate::values) has what must agree of that. Of
-//! a value as a whole tree, [`tree`](crate::tree) has it, [`path`](crate::path) of a path into one, and
-//! [`writing`](crate::writing) of a dictionary that is written.
+//! a value as a whole tree, [`tree`](crate::tree) has it, [`path`](crate::path) of a path into one,
+//! [`writing`](crate::writing) of a dictionary that is written, and [`composing`](crate::composing) of an
+//! object that is.
 //!
 //! Of our own answers besides: each function gives the same refusal; an accepted layer's numbers
 //! are those of its header; a lookup's id is that of its field; words after a listing, and all words
@@ -30,6 +31,7 @@
 //! Of larger inputs fewer entries and fields are asked for one by one, since each such question is a
 //! whole check.
 
+use crate::composing::Composing;
 use crate::lengths::Values;
 use crate::listing::Listing;
 use crate::many::Many;
@@ -147,6 +149,16 @@ pub fn input(reader: &impl Reader, input: &Input, tally: &mut Tally) -> Compared
         }
         (Some(value), None) => tree(reader, &known, value, tally)?,
         (None, None) => {}
+    }
+    if let Some(pairs) = &input.pairs {
+        let composing = Composing {
+            reader,
+            dict: known.dict,
+            ours: known.ours,
+            metadata: known.theirs.as_ref(),
+            pairs,
+        };
+        composing.compare(tally)?;
     }
     match &input.object {
         Some(bytes) => object(reader, &known, bytes, input.query.as_deref(), tally),

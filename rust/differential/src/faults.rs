@@ -4,8 +4,10 @@ use crate::LARGE;
 use crate::compare::bad_offsets;
 use crate::given::Given;
 use crate::many::bad_ends;
+use crate::miscomposing::Miscomposing;
 use crate::miswriting::{Lent, Miswriting};
 use crate::ours::{Reader, absent, accepted, found, refused, refused_at};
+use crate::pairs::Pairs;
 use crate::reading::{BINARY, ObjectParts, PAYLOADS, STRING, own_length};
 use crate::reference::{Tree, Twist};
 use crate::walk::Walk;
@@ -474,10 +476,150 @@ pub enum Fault {
     WritesShortScratch,
     /// Takes what scratch held before for the order of the names.
     TrustsOrder,
+    /// Writes fields in the order of the pairs.
+    FieldsAsGiven,
+    /// Writes fields in the order of their ids.
+    FieldsById,
+    /// Writes fields of shorter names before those of longer ones.
+    FieldsByLength,
+    /// Writes fields from the greatest name to the least.
+    FieldsBackwards,
+    /// Takes bytes for signed in the order of fields.
+    FieldsSigned,
+    /// Gives the number of the pair for the id.
+    PairsForIds,
+    /// Gives the first two fields each other's child.
+    SwapsChildren,
+    /// Lays children in the order of the pairs, as the Rust's builder does.
+    ChildrenAsGiven,
+    /// Lays children of the same bytes once.
+    SharesChildren,
+    /// Leaves a byte between children.
+    GapsBetweenChildren,
+    /// Takes the width of ids of how many entries the dictionary has.
+    IdWidthOfEntries,
+    /// Takes that of its last entry.
+    IdWidthOfLastEntry,
+    /// Takes that of how many fields there are, where it is more.
+    IdWidthOfFields,
+    /// Takes a byte more for each id than is needed.
+    IdWidthOneMore,
+    /// Takes a byte more for each offset than is needed.
+    OffsetWidthOneMore,
+    /// Takes the width of offsets of all bytes that are lent.
+    OffsetWidthOfLent,
+    /// Takes offsets to be no narrower than ids.
+    OneWidthForBoth,
+    /// Takes four bytes for a count of 255.
+    LongCountAt255,
+    /// Takes four bytes for every count.
+    LongCountOfFew,
+    /// Sets bit 7 of the header.
+    SetsTopBit,
+    /// Writes ids and offsets with their highest byte first.
+    HighestFirstInObjects,
+    /// Writes 02 00 for no fields.
+    NoOffsetOfNoFields,
+    /// Answers how many words are given.
+    CountsWords,
+    /// Answers how many fields are written in two bytes.
+    WrittenFieldsOfTwoBytes,
+    /// Leaves an id in the answer.
+    LeavesAnId,
+    /// Says of the region that it starts with the object that is written.
+    NoRegionWritten,
+    /// Answers the length of the room for an object.
+    LengthOfObjectRoom,
+    /// Answers the length of the children alone.
+    LengthOfChildren,
+    /// Answers the length of an object in two bytes.
+    ObjectLengthOfTwoBytes,
+    /// Takes a cut last pair, with 0 for what it has not.
+    TakesCutPair,
+    /// Says 45 of a cut last pair.
+    RefusesCutPair,
+    /// Does not look at the dictionary where there are no pairs.
+    NoPairsUnchecked,
+    /// Says 45 before what is refused of the dictionary.
+    RangesBeforeDictionary,
+    /// Says 45 before 25.
+    RangesBeforeIds,
+    /// Says 26 before 25.
+    NamesBeforeIds,
+    /// Says 45 before 26.
+    RangesBeforeNames,
+    /// Says 28 before 45.
+    EmptyBeforeRanges,
+    /// Looks for 45 and 28 of each pair before the next.
+    RangesWithEmpty,
+    /// Looks for all that is refused of each pair before the next.
+    PairByPair,
+    /// Takes an id that is the number of entries.
+    TakesIdAtCount,
+    /// Takes the last of pairs with one name.
+    TakesDoubles,
+    /// Says 26 of the same id alone.
+    DoublesById,
+    /// Says 26 of names that come twice in a row alone.
+    DoublesOfNeighbours,
+    /// Says 26 at the earlier pair.
+    DoublesAtTheEarlier,
+    /// Says 26 at the least name that comes again.
+    DoublesByName,
+    /// Says 26 of names that begin with the same eight bytes.
+    DoublesByEight,
+    /// Takes a range that falls for one of no bytes.
+    TakesFallingRanges,
+    /// Takes a range that passes the bytes for one up to their end.
+    TakesPassingRanges,
+    /// Says 45 where a start passes the bytes, and not for an end.
+    LooksAtStartsAlone,
+    /// Says 45 of a range that ends with the bytes.
+    RefusesTheLastByte,
+    /// Writes children of no bytes.
+    TakesEmptyChildrenOfPairs,
+    /// Says what is refused at the last bad pair.
+    LastBadPair,
+    /// Counts pairs from 1 in a refusal's place.
+    PairsFromOne,
+    /// Gives the word that a bad pair begins with.
+    PairsByTheirWords,
+    /// Gives the id as 25's place.
+    IdAsPlace,
+    /// Says what is refused of pairs without its place.
+    NoPlaceOfPairs,
+    /// Says 46 before the dictionary is looked at.
+    ObjectRoomFirst,
+    /// Says 46 before 20.
+    RoomBeforeObjectLimit,
+    /// Holds the children alone to the limit.
+    LimitOfChildren,
+    /// Holds the bytes that are lent to the limit.
+    LimitOfLent,
+    /// Refuses an object of just as many bytes as the limit.
+    ObjectLimitOneLess,
+    /// Writes an object of a byte more.
+    ObjectLimitOneMore,
+    /// Says 46 where there is just as much room as an object needs.
+    WantsAByteMoreOfRoom,
+    /// Writes as much of an object as there is room for under 46.
+    FillsShortObjectRoom,
+    /// Writes the first byte under a refusal of pairs.
+    WritesRefusedHeader,
+    /// Writes a byte after the object.
+    WritesAfterObject,
+    /// Clears what comes after the object.
+    ClearsAfterObject,
+    /// Says 46 where scratch is too little for pairs.
+    NoObjectWithoutScratch,
+    /// Writes to scratch that is too little for pairs.
+    WritesShortObjectScratch,
+    /// Takes what scratch held before for the order of the fields.
+    TrustsObjectOrder,
 }
 
 /// Every fault.
-pub const ALL: [Fault; 230] = [
+pub const ALL: [Fault; 300] = [
     Fault::AlwaysShort,
     Fault::AbsentIsFound,
     Fault::AlwaysAbsent,
@@ -708,6 +850,76 @@ pub const ALL: [Fault; 230] = [
     Fault::RefusesWithoutScratch,
     Fault::WritesShortScratch,
     Fault::TrustsOrder,
+    Fault::FieldsAsGiven,
+    Fault::FieldsById,
+    Fault::FieldsByLength,
+    Fault::FieldsBackwards,
+    Fault::FieldsSigned,
+    Fault::PairsForIds,
+    Fault::SwapsChildren,
+    Fault::ChildrenAsGiven,
+    Fault::SharesChildren,
+    Fault::GapsBetweenChildren,
+    Fault::IdWidthOfEntries,
+    Fault::IdWidthOfLastEntry,
+    Fault::IdWidthOfFields,
+    Fault::IdWidthOneMore,
+    Fault::OffsetWidthOneMore,
+    Fault::OffsetWidthOfLent,
+    Fault::OneWidthForBoth,
+    Fault::LongCountAt255,
+    Fault::LongCountOfFew,
+    Fault::SetsTopBit,
+    Fault::HighestFirstInObjects,
+    Fault::NoOffsetOfNoFields,
+    Fault::CountsWords,
+    Fault::WrittenFieldsOfTwoBytes,
+    Fault::LeavesAnId,
+    Fault::NoRegionWritten,
+    Fault::LengthOfObjectRoom,
+    Fault::LengthOfChildren,
+    Fault::ObjectLengthOfTwoBytes,
+    Fault::TakesCutPair,
+    Fault::RefusesCutPair,
+    Fault::NoPairsUnchecked,
+    Fault::RangesBeforeDictionary,
+    Fault::RangesBeforeIds,
+    Fault::NamesBeforeIds,
+    Fault::RangesBeforeNames,
+    Fault::EmptyBeforeRanges,
+    Fault::RangesWithEmpty,
+    Fault::PairByPair,
+    Fault::TakesIdAtCount,
+    Fault::TakesDoubles,
+    Fault::DoublesById,
+    Fault::DoublesOfNeighbours,
+    Fault::DoublesAtTheEarlier,
+    Fault::DoublesByName,
+    Fault::DoublesByEight,
+    Fault::TakesFallingRanges,
+    Fault::TakesPassingRanges,
+    Fault::LooksAtStartsAlone,
+    Fault::RefusesTheLastByte,
+    Fault::TakesEmptyChildrenOfPairs,
+    Fault::LastBadPair,
+    Fault::PairsFromOne,
+    Fault::PairsByTheirWords,
+    Fault::IdAsPlace,
+    Fault::NoPlaceOfPairs,
+    Fault::ObjectRoomFirst,
+    Fault::RoomBeforeObjectLimit,
+    Fault::LimitOfChildren,
+    Fault::LimitOfLent,
+    Fault::ObjectLimitOneLess,
+    Fault::ObjectLimitOneMore,
+    Fault::WantsAByteMoreOfRoom,
+    Fault::FillsShortObjectRoom,
+    Fault::WritesRefusedHeader,
+    Fault::WritesAfterObject,
+    Fault::ClearsAfterObject,
+    Fault::NoObjectWithoutScratch,
+    Fault::WritesShortObjectScratch,
+    Fault::TrustsObjectOrder,
 ];
 
 impl Fault {
@@ -744,7 +956,13 @@ impl Fault {
 
     /// Whether it is one of a dictionary that is written, which [`miswriting`](crate::miswriting) has.
     pub fn is_of_writing(self) -> bool {
-        self as usize >= Fault::AlwaysEmpty as usize
+        let of_writing = Fault::AlwaysEmpty as usize..=Fault::TrustsOrder as usize;
+        of_writing.contains(&(self as usize))
+    }
+
+    /// Whether it is one of an object that is written, which [`miscomposing`](crate::miscomposing) has.
+    pub fn is_of_objects(self) -> bool {
+        self as usize >= Fault::FieldsAsGiven as usize
     }
 
     /// How many levels it lets a tree have.
@@ -1320,5 +1538,24 @@ impl<R: Reader> Reader for Faulty<R> {
         };
         let fault = Some(self.fault);
         Miswriting { fault }.answer(&given, Lent { order, spare, room })
+    }
+
+    fn write_object(
+        &self,
+        dict: &[u8],
+        pairs: &Pairs,
+        order: &mut [u32],
+        spare: &mut [u32],
+        room: &mut [u8],
+    ) -> Strip {
+        if !self.fault.is_of_objects() {
+            return self.reader.write_object(dict, pairs, order, spare, room);
+        }
+        let writer = Miscomposing {
+            dict,
+            dictionary: self.reader.dictionary(dict),
+            fault: Some(self.fault),
+        };
+        writer.answer(pairs, Lent { order, spare, room })
     }
 }

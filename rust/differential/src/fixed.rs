@@ -38,7 +38,7 @@ pub fn of_length(length: usize) -> impl Iterator<Item = Input> {
 }
 
 /// The dictionaries of document 01's worked cases, and request b)'s.
-const WORKED_DICTIONARIES: [&[u8]; 14] = [
+pub(crate) const WORKED_DICTIONARIES: [&[u8]; 14] = [
     b"",
     b"\x01\x00\x00",
     b"\x01\x00",

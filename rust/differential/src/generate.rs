@@ -159,7 +159,7 @@ pub(crate) fn object_shape(random: &mut Random, ids: &[usize], region: usize) ->
 }
 
 /// A child, and once in a while one that the Rust refuses.
-fn child(random: &mut Random, names: &[Vec<u8>], levels: usize) -> Vec<u8> {
+pub(crate) fn child(random: &mut Random, names: &[Vec<u8>], levels: usize) -> Vec<u8> {
     let mut bytes = value(random, names, levels);
     if random.one_in(60) {
         let at = random.below(bytes.len());

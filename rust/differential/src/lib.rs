@@ -4,15 +4,17 @@
 //! [`values`] of a value that is read; [`tree`] has what must agree of a whole tree, by a [`reference`]
 //! and by the Rust but for what is [`otherwise`] there; [`path`] of a path into a value, by a
 //! [`spelling`] of its text and a [`walk`], and by the Rust; [`writing`] of a dictionary that is written
-//! of the names that are [`given`]. [`ours`] and [`original`] are the two sides, and [`lengths`] has what
+//! of the names that are [`given`], and [`composing`] of an object of [`pairs`]. [`ours`] and [`original`] are the two sides, and [`lengths`] has what
 //! the Rust tells of children's lengths; [`fixed`], [`exhaustive`], [`children`], [`extremes`],
-//! [`long_names`], [`generate`], [`large`], [`trees`], [`paths`], [`sets`] and [`damage`] make the
-//! inputs; [`run`] goes through them, counting in a [`tally`], and has [`shrink`] make an input that
-//! disagrees as small as it can. [`faults`] are wrong readers, some of them by [`miswriting`].
+//! [`long_names`], [`generate`], [`large`], [`trees`], [`paths`], [`sets`], [`objects`] and [`damage`]
+//! make the inputs; [`run`] goes through them, counting in a [`tally`], and has [`shrink`] make an input that
+//! disagrees as small as it can. [`faults`] are wrong readers, some of them by [`miswriting`] and
+//! [`miscomposing`].
 //! [`replay`] writes answers of the Rust's down, to be asked again where it is not at hand.
 
 pub mod children;
 pub mod compare;
+pub mod composing;
 pub mod damage;
 pub mod encode;
 pub mod exhaustive;
@@ -26,10 +28,13 @@ pub mod lengths;
 pub mod listing;
 pub mod long_names;
 pub mod many;
+pub mod miscomposing;
 pub mod miswriting;
+pub mod objects;
 pub mod original;
 pub mod otherwise;
 pub mod ours;
+pub mod pairs;
 pub mod path;
 pub mod paths;
 pub mod random;
@@ -48,6 +53,7 @@ pub mod walk;
 pub mod writing;
 
 use given::Given;
+use pairs::Pairs;
 
 /// A dictionary or an object of more bytes is a large one: its places take more than two bytes.
 pub const LARGE: usize = 65_536;
@@ -67,6 +73,8 @@ pub struct Input {
     pub query: Option<Vec<u8>>,
     /// Names of which a dictionary is written. Where there are some, nothing else is asked.
     pub names: Option<Given>,
+    /// Pairs of which an object is written over the dictionary.
+    pub pairs: Option<Pairs>,
 }
 
 impl Input {
@@ -112,12 +120,22 @@ impl Input {
         }
     }
 
+    /// A dictionary, and pairs of which an object is written over it.
+    pub fn pairs(dict: Vec<u8>, pairs: Pairs) -> Input {
+        Input {
+            dict,
+            pairs: Some(pairs),
+            ..Input::default()
+        }
+    }
+
     /// How many bytes there are in all.
     pub fn size(&self) -> usize {
         let length = |bytes: &Option<Vec<u8>>| bytes.as_ref().map_or(0, Vec::len);
         let parts = [&self.object, &self.tree, &self.path, &self.query].map(length);
         let names = self.names.as_ref().map_or(0, Given::size);
-        self.dict.len() + parts.iter().sum::<usize>() + names
+        let pairs = self.pairs.as_ref().map_or(0, Pairs::size);
+        self.dict.len() + parts.iter().sum::<usize>() + names + pairs
     }
 }
 

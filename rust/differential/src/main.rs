@@ -1,5 +1,5 @@
 //! The command: `differential short`, `differential long`, `differential trees`, `differential paths`,
-//! `differential writing` or `differential replay LINES`.
+//! `differential writing`, `differential objects` or `differential replay LINES`.
 
 use differential::faults::{ALL, Fault, Faulty};
 use differential::ours::Archive;
@@ -15,6 +15,7 @@ usage: differential short [--seed N]
        differential trees [--seed N] [--inputs N] [--minutes N]
        differential paths [--seed N] [--inputs N] [--minutes N]
        differential writing [--seed N] [--inputs N] [--minutes N]
+       differential objects [--seed N] [--inputs N] [--minutes N]
        differential replay LINES [--seed N]";
 
 /// How long an input that disagrees is made smaller.
@@ -40,6 +41,9 @@ fn main() -> ExitCode {
         }
         ["writing", ref options @ ..] => {
             read(options).map(|options| long_run(writing(&options), &options))
+        }
+        ["objects", ref options @ ..] => {
+            read(options).map(|options| long_run(objects(&options), &options))
         }
         ["replay", lines, ref options @ ..] => emit(lines, options),
         _ => None,
@@ -92,6 +96,7 @@ fn short(options: &Options) -> Settings {
         trees: 20_000,
         paths: 40_000,
         written: 40_000,
+        composed: 40_000,
         part: Part::All,
         every: 3,
         telling: 7,
@@ -108,6 +113,7 @@ fn long(options: &Options) -> Settings {
         trees: 1_000_000,
         paths: 1_000_000,
         written: 1_000_000,
+        composed: 1_000_000,
         part: Part::All,
         every: 3,
         telling: 8,
@@ -139,6 +145,15 @@ fn writing(options: &Options) -> Settings {
     Settings {
         written: options.inputs,
         part: Part::Writing,
+        ..long(options)
+    }
+}
+
+/// Objects that are written alone, as many as there would be inputs.
+fn objects(options: &Options) -> Settings {
+    Settings {
+        composed: options.inputs,
+        part: Part::Objects,
         ..long(options)
     }
 }

@@ -16,24 +16,24 @@ pub struct Miswriting {
     pub fault: Option<Fault>,
 }
 
-/// What a call is lent beside the names.
+/// What a call is lent beside the names, or the pairs.
 pub struct Lent<'l> {
     /// Scratch.
     pub order: &'l mut [u32],
     /// Scratch.
     pub spare: &'l mut [u32],
-    /// Room for the dictionary.
+    /// Room for the dictionary, or the object.
     pub room: &'l mut [u8],
 }
 
 impl Lent<'_> {
-    /// Whether there is a word for each of so many names in both rows of scratch.
-    fn has_scratch(&self, names: usize) -> bool {
+    /// Whether there is a word for each of so many names, or pairs, in both rows of scratch.
+    pub(crate) fn has_scratch(&self, names: usize) -> bool {
         self.order.len().min(self.spare.len()) >= names
     }
 
     /// Writes as much as there is room for.
-    fn fill(&mut self, bytes: &[u8]) {
+    pub(crate) fn fill(&mut self, bytes: &[u8]) {
         let room = self.room.iter_mut();
         room.zip(bytes).for_each(|(lent, byte)| *lent = *byte);
     }
@@ -187,7 +187,6 @@ impl Miswriting {
 
     /// The order of two names.
     fn compared(self, a: &[u8], b: &[u8]) -> Ordering {
-        let signed = |name: &[u8]| -> Vec<i8> { name.iter().map(|&byte| byte as i8).collect() };
         let units =
             |name: &[u8]| -> Vec<u16> { String::from_utf8_lossy(name).encode_utf16().collect() };
         match self.fault {
@@ -266,6 +265,11 @@ impl Miswriting {
         };
         accepted(count, 0, length)
     }
+}
+
+/// The bytes of a name, taken for signed.
+pub(crate) fn signed(name: &[u8]) -> Vec<i8> {
+    name.iter().map(|&byte| byte as i8).collect()
 }
 
 /// Names in the order that scratch held before, as far as it has numbers of them.

@@ -1,5 +1,6 @@
 //! Our side: the functions of the archive, as strips.
 
+use crate::pairs::Pairs;
 use lichenhusk::{STRIP_BYTES, Strip, raw};
 
 /// What can be asked of our side. It is a trait so that a test can put a wrong reader in the
@@ -44,6 +45,15 @@ pub trait Reader {
         &self,
         run: &[u8],
         ends: &[u32],
+        order: &mut [u32],
+        spare: &mut [u32],
+        room: &mut [u8],
+    ) -> Strip;
+    /// Field count, region start and length, as the end, of an object that is written to the room.
+    fn write_object(
+        &self,
+        dict: &[u8],
+        pairs: &Pairs,
         order: &mut [u32],
         spare: &mut [u32],
         room: &mut [u8],
@@ -114,6 +124,17 @@ impl Reader for Archive {
         room: &mut [u8],
     ) -> Strip {
         filled(|strip| raw::write_dictionary(run, ends, order, spare, room, strip))
+    }
+
+    fn write_object(
+        &self,
+        dict: &[u8],
+        Pairs { bytes, words }: &Pairs,
+        order: &mut [u32],
+        spare: &mut [u32],
+        room: &mut [u8],
+    ) -> Strip {
+        filled(|strip| raw::write_object(dict, bytes, words, order, spare, room, strip))
     }
 }
 

@@ -10,10 +10,11 @@ use crate::generate::good;
 use crate::given::Given;
 use crate::long_names;
 use crate::ours::Reader;
+use crate::pairs::Pairs;
 use crate::random::Random;
 use crate::shrink::smallest;
 use crate::tally::{Tally, grouped};
-use crate::{Input, children, extremes, large, paths, sets, shown, trees};
+use crate::{Input, children, extremes, large, objects, paths, sets, shown, trees};
 use std::fmt;
 use std::panic::{AssertUnwindSafe, catch_unwind};
 use std::time::{Duration, Instant};
@@ -33,6 +34,8 @@ pub struct Settings {
     pub paths: u64,
     /// How many times names to write are generated, good ones and damaged ones together.
     pub written: u64,
+    /// How many times pairs to write are generated, good ones and damaged ones together.
+    pub composed: u64,
     /// What is gone through.
     pub part: Part,
     /// The length up to which every string of bytes is tried.
@@ -56,6 +59,8 @@ pub enum Part {
     Paths,
     /// Dictionaries that are written alone.
     Writing,
+    /// Objects that are written alone.
+    Objects,
 }
 
 /// Damaged copies of each good input.
@@ -155,6 +160,8 @@ impl<R: Reader> Run<'_, R> {
                 self.larger_paths()?;
                 self.small_writing()?;
                 self.larger_writing()?;
+                self.small_objects()?;
+                self.larger_objects()?;
                 self.names_and_generated()
             }
             Part::Trees => {
@@ -168,6 +175,10 @@ impl<R: Reader> Run<'_, R> {
             Part::Writing => {
                 self.small_writing()?;
                 self.larger_writing()
+            }
+            Part::Objects => {
+                self.small_objects()?;
+                self.larger_objects()
             }
         }
     }
@@ -256,6 +267,32 @@ impl<R: Reader> Run<'_, R> {
         })?;
         self.kind("names to write about the limit of length", |run| {
             sets::of_length().try_for_each(|input| run.input(&input))
+        })
+    }
+
+    fn small_objects(&mut self) -> Going {
+        self.kind("objects to write: worked cases, ends of widths", |run| {
+            objects::fixed().try_for_each(|input| run.input(&input))
+        })?;
+        self.kind("every row of few pairs to write", |run| {
+            objects::each_row(|input| run.input(input))
+        })?;
+        self.kind("every row of telling words, two dictionaries", |run| {
+            let longest = run.settings.telling;
+            (0..=longest)
+                .try_for_each(|length| objects::each_words(length, |input| run.input(input)))
+        })?;
+        self.kind("objects to write generated, and damaged copies", |run| {
+            run.generated(run.settings.composed, objects::good, objects::damaged)
+        })
+    }
+
+    fn larger_objects(&mut self) -> Going {
+        self.kind("many and long children to write, damaged copies", |run| {
+            run.generated(run.settings.large / 10, objects::larger, objects::damaged)
+        })?;
+        self.kind("objects to write about the limit of length", |run| {
+            objects::of_length().try_for_each(|input| run.input(&input))
         })
     }
 
@@ -500,7 +537,7 @@ impl fmt::Display for Outcome {
     }
 }
 
-/// Of more ends, the first are shown.
+/// Of more ends, or words, the first are shown.
 const SHOWN_ENDS: usize = 64;
 
 /// An input for a reader, a line for each of its parts.
@@ -523,6 +560,11 @@ fn lines_of(input: &Input) -> String {
     }
     if let Some(query) = &input.query {
         text += &part("name      ", query);
+    }
+    if let Some(Pairs { bytes, words }) = &input.pairs {
+        let some = &words[..words.len().min(SHOWN_ENDS)];
+        text += &part("bytes     ", bytes);
+        text += &format!("  {} words of pairs {some:?}\n", words.len());
     }
     text
 }

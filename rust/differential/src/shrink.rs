@@ -6,9 +6,11 @@
 use crate::Input;
 use crate::encode::put;
 use crate::given::Given;
+use crate::pairs::{Pair, Pairs};
 use crate::reading::{DictionaryParts, ObjectParts, Row, list_offsets};
 use crate::reference::{is_container, rows_of};
 use crate::trees::nodes;
+use lichenhusk::WORDS_PER_PAIR;
 use std::ops::Range;
 use std::time::{Duration, Instant};
 
@@ -26,13 +28,22 @@ fn tries(size: usize) -> usize {
 /// One of the byte strings of an input.
 type Part = fn(&mut Input) -> Option<&mut Vec<u8>>;
 
-const PARTS: [Part; 6] = [
+const PARTS: [Part; 7] = [
     |input| Some(&mut input.names.as_mut()?.run),
+    |input| Some(&mut input.pairs.as_mut()?.bytes),
     |input| input.query.as_mut(),
     |input| input.path.as_mut(),
     |input| input.object.as_mut(),
     |input| input.tree.as_mut(),
     |input| Some(&mut input.dict),
+];
+
+/// The numbers of an input that are words of their own: ends of names to write, and words of pairs.
+type Words = fn(&mut Input) -> Option<&mut Vec<u32>>;
+
+const WORDS: [Words; 2] = [
+    |input| Some(&mut input.names.as_mut()?.ends),
+    |input| Some(&mut input.pairs.as_mut()?.words),
 ];
 
 /// Things in an input of which runs can be left out: how many there are, and the input without a
@@ -42,9 +53,10 @@ struct Things {
     without: fn(&Input, Range<usize>) -> Option<Input>,
 }
 
-/// Names to write with their bytes, ends of them alone, and bytes of their run; fields, entries, and
-/// bytes of the object's region and of the dictionary's; children of a tree, and bytes anywhere in it.
-const THINGS: [Things; 9] = [
+/// Names to write with their bytes, ends of them alone, and bytes of their run; pairs to write, words of
+/// them, and bytes that are lent; fields, entries, and bytes of the object's region and of the
+/// dictionary's; children of a tree, and bytes anywhere in it.
+const THINGS: [Things; 12] = [
     Things {
         count: |input| Some(input.names.as_ref()?.ends.len()),
         without: |input, run| {
@@ -73,6 +85,29 @@ const THINGS: [Things; 9] = [
         without: |input, run| Some(Input::names(without_bytes(input.names.as_ref()?, run))),
     },
     Things {
+        count: |input| Some(input.pairs.as_ref()?.pairs().len()),
+        without: |input, run| {
+            let words = run.start * WORDS_PER_PAIR..run.end * WORDS_PER_PAIR;
+            without_words(input, words)
+        },
+    },
+    Things {
+        count: |input| Some(input.pairs.as_ref()?.words.len()),
+        without: without_words,
+    },
+    Things {
+        count: |input| Some(input.pairs.as_ref()?.bytes.len()),
+        without: |input, run| {
+            let mut fewer = input.pairs.clone()?;
+            fewer.bytes.drain(run.clone());
+            for [_, start, end] in fewer.words.as_chunks_mut().0 {
+                count_on(start, &run);
+                count_on(end, &run);
+            }
+            Some(Input::pairs(input.dict.clone(), fewer))
+        },
+    },
+    Things {
         count: |input| Some(Apart::of_object(input.object.as_ref()?)?.ids.len()),
         without: |input, run| {
             let object = Apart::of_object(input.object.as_ref()?)?;
@@ -93,6 +128,9 @@ const THINGS: [Things; 9] = [
             fewer.object.iter_mut().for_each(without);
             let trees = fewer.tree.iter_mut().filter(|tree| is_object(tree));
             trees.for_each(without);
+            if let Some(pairs) = &mut fewer.pairs {
+                *pairs = without_ids(pairs, &run);
+            }
             Some(fewer)
         },
     },
@@ -131,10 +169,39 @@ fn without_bytes(given: &Given, bytes: Range<usize>) -> Given {
     let mut fewer = given.clone();
     fewer.run.drain(bytes.clone());
     for end in &mut fewer.ends {
-        let gone = (*end as usize).saturating_sub(bytes.start).min(bytes.len());
-        *end -= gone as u32;
+        count_on(end, &bytes);
     }
     fewer
+}
+
+/// Makes a place the one that it is without a run of what is before it.
+fn count_on(place: &mut u32, run: &Range<usize>) {
+    let gone = (*place as usize).saturating_sub(run.start).min(run.len());
+    *place -= gone as u32;
+}
+
+/// Pairs to write without some of their words.
+fn without_words(input: &Input, run: Range<usize>) -> Option<Input> {
+    let mut fewer = input.pairs.clone()?;
+    fewer.words.drain(run);
+    Some(Input::pairs(input.dict.clone(), fewer))
+}
+
+/// Pairs to write without those of some ids, where the entries of these are left out.
+fn without_ids(pairs: &Pairs, run: &Range<usize>) -> Pairs {
+    let (whole, left_over) = pairs.words.as_chunks::<WORDS_PER_PAIR>();
+    let stays = |[id, ..]: &&Pair| !run.contains(&(*id as usize));
+    let stay = whole.iter().filter(stays);
+    let mut words = Vec::new();
+    for &[mut id, start, end] in stay {
+        count_on(&mut id, run);
+        words.extend([id, start, end]);
+    }
+    words.extend(left_over);
+    Pairs {
+        bytes: pairs.bytes.clone(),
+        words,
+    }
 }
 
 fn with_tree(input: &Input, tree: Vec<u8>) -> Input {
@@ -315,6 +382,7 @@ impl<F: Fn(&Input) -> bool> Search<F> {
         self.change(|input| input.tree = None);
         self.change(|input| input.path = None);
         self.change(|input| input.names = None);
+        self.change(|input| input.pairs = None);
         self.inner();
         for things in &THINGS {
             self.fewer(things);
@@ -323,23 +391,21 @@ impl<F: Fn(&Input) -> bool> Search<F> {
             self.shorter(part);
             self.lower(part);
         }
-        self.lower_ends();
+        for words in WORDS {
+            self.lower_words(words);
+        }
         self.input != before
     }
 
-    /// Makes the ends of names to write smaller, of many the first: 0, half, or one less.
-    fn lower_ends(&mut self) {
-        let ends = self
-            .input
-            .names
-            .as_ref()
-            .map_or(0, |given| given.ends.len());
-        for at in 0..ends.min(FIRST) {
-            let end = self.input.names.as_ref().map_or(0, |given| given.ends[at]);
-            for smaller in [0, end / 2, end.saturating_sub(1)] {
+    /// Makes words smaller, of many the first: 0, half, or one less.
+    fn lower_words(&mut self, words: Words) {
+        let count = words(&mut self.input).map_or(0, |words| words.len());
+        for at in 0..count.min(FIRST) {
+            let word = words(&mut self.input).map_or(0, |words| words[at]);
+            for smaller in [0, word / 2, word.saturating_sub(1)] {
                 let set = |input: &mut Input| {
-                    if let Some(given) = &mut input.names {
-                        given.ends[at] = smaller;
+                    if let Some(words) = words(input) {
+                        words[at] = smaller;
                     }
                 };
                 if !self.in_time() || self.change(set) {

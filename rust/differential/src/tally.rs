@@ -91,6 +91,24 @@ pub struct Tally {
     pub written_without_room: u64,
     /// The same bytes with a word of scratch too little.
     pub written_slowly: u64,
+    /// Pairs of which the plain writer writes the same object, by our number.
+    pub composed: BTreeMap<u32, u64>,
+    /// Of these, the objects that are the builder's bytes.
+    pub composed_built: u64,
+    /// The ones whose children are values, and which the builder does not write.
+    pub composed_unbuilt: u64,
+    /// The ones with a child that is no value, which the Rust reads with other children.
+    pub composed_of_no_values: u64,
+    /// How many fields these objects have.
+    pub composed_fields: u64,
+    /// The same pairs in another order, or over other bytes, which give the same object.
+    pub composed_again: u64,
+    /// Objects in a byte of room too little or in none, refused with 46.
+    pub composed_without_room: u64,
+    /// The same object with a word of scratch too little.
+    pub composed_slowly: u64,
+    /// Pairs over a dictionary that is refused.
+    pub composed_over_refused: u64,
     /// Lookups that found what `get` yields.
     pub found: u64,
     /// Lookups that are absent where `get` yields nothing.
@@ -273,6 +291,23 @@ impl fmt::Display for Tally {
         line("  again in another order, some twice", self.written_again)?;
         line("  again with too little scratch", self.written_slowly)?;
         line("  without room, 46", self.written_without_room)?;
+        for (number, count) in &self.composed {
+            match number {
+                0 => line("objects written, the plain writer's bytes", *count)?,
+                _ => line(&format!("objects not written, {number}"), *count)?,
+            }
+        }
+        line("  the builder's bytes", self.composed_built)?;
+        line("  not the builder's to write", self.composed_unbuilt)?;
+        line(
+            "  with a child that is no value",
+            self.composed_of_no_values,
+        )?;
+        line("  their fields, read back by both", self.composed_fields)?;
+        line("  again in another order or place", self.composed_again)?;
+        line("  again with too little scratch", self.composed_slowly)?;
+        line("  without room, 46", self.composed_without_room)?;
+        line("  over a refused dictionary", self.composed_over_refused)?;
         line("lookups found", self.found)?;
         line("lookups absent", self.absent)?;
         line(

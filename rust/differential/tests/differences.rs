@@ -1,14 +1,16 @@
 //! Where the two sides differ, or the Rust differs from its own documentation: each with a small
 //! input. These are known, and outside of what is compared.
 
+use differential::composing;
 use differential::encode::{self, ObjectShape, object as object_of, plain_object};
 use differential::exhaustive::{all_bytes, each};
 use differential::fixed::SORTED;
 use differential::trees::nest;
 use differential::writing::built;
-use lichenhusk::{LEVELS, LIMIT, Refusal, Value};
+use lichenhusk::{LEVELS, LIMIT, ObjectWriter, Refusal, Value};
 use parquet_variant::{
-    MAX_NESTING_DEPTH, Variant, VariantMetadata, VariantObject, VariantPath, VariantPathElement,
+    MAX_NESTING_DEPTH, Variant, VariantBuilder, VariantMetadata, VariantObject, VariantPath,
+    VariantPathElement,
 };
 use std::panic::catch_unwind;
 use std::time::{Duration, Instant};
@@ -587,6 +589,120 @@ fn a_dictionary_over_the_limit() {
     assert_eq!(ours, Err(Refusal::DictionaryTooLong));
     let (theirs, ours) = both_written(&[&long[1..]]);
     assert_eq!((theirs.len(), Ok(theirs)), (LIMIT, ours));
+}
+
+/// What the Rust's builder writes for fields over D, whose children are read first, and what we do.
+fn both_composed(fields: &[(&str, &[u8])]) -> (Vec<u8>, Result<Vec<u8>, Refusal>) {
+    let metadata = VariantMetadata::try_new(SORTED).expect("D");
+    let value = |bytes| Variant::try_new_with_metadata(metadata.clone(), bytes).expect("a value");
+    let named = fields.iter().map(|&(name, child)| (name, value(child)));
+    let ours: ObjectWriter = fields.iter().copied().collect();
+    (composing::built(&metadata, named), ours.finish_over(SORTED))
+}
+
+/// The builder lays children in the order in which they come, and ours in that of the names. Two fields
+/// are in some order, and no value has fewer bytes.
+#[test]
+fn children_that_come_in_another_order() {
+    let (theirs, ours) = both_composed(&[("roll", &[0]), ("flow", &[4])]);
+    assert_eq!(theirs, [2, 2, 0, 1, 1, 0, 2, 0, 4]);
+    assert_eq!(ours, Ok(vec![2, 2, 0, 1, 0, 1, 2, 4, 0]));
+    assert!(rust_accepts(SORTED, &theirs) && lichenhusk::layer(SORTED, &theirs).is_ok());
+    let (theirs, in_order) = both_composed(&[("flow", &[4]), ("roll", &[0])]);
+    assert_eq!((Ok(theirs), in_order), (ours.clone(), ours));
+}
+
+/// A name that comes again: the builder takes the last, and leaves the bytes of the first where no field
+/// has them; where it is told to, it refuses the second. Ours is 26.
+#[test]
+fn fields_of_one_name() {
+    let mut builder = VariantBuilder::new().with_field_names(["flow", "roll"]);
+    let mut object = builder.new_object();
+    object.insert("flow", Variant::Null);
+    object.insert("flow", Variant::BooleanTrue);
+    object.finish();
+    let (dict, theirs) = builder.finish();
+    assert_eq!(
+        (&dict[..], &theirs[..]),
+        (SORTED, &[2, 1, 0, 1, 2, 0, 4][..])
+    );
+    let mut builder = VariantBuilder::new().with_validate_unique_fields(true);
+    let mut object = builder.new_object();
+    object.insert("flow", Variant::Null);
+    assert!(object.try_insert("flow", Variant::BooleanTrue).is_err());
+    let ours = lichenhusk::write_object(SORTED, [(0, [0]), (0, [4])]);
+    assert_eq!(ours, Err(Refusal::ObjectOrder { field: 1 }));
+}
+
+/// Of entries with one name the builder takes the first; ours is the one that is given. Two names of no
+/// bytes are the least that are one.
+#[test]
+fn the_second_entry_of_a_name() {
+    let dict = [1, 2, 0, 0, 0];
+    let metadata = VariantMetadata::try_new(&dict).expect("two names");
+    let theirs = composing::built(&metadata, [("", Variant::Null)]);
+    assert_eq!(theirs, [2, 1, 0, 0, 1, 0]);
+    let ours = lichenhusk::write_object(&dict, [(1, [0])]);
+    assert_eq!(ours, Ok(vec![2, 1, 1, 0, 1, 0]));
+    // Handed the dictionary's names to add to, it has one of them left.
+    let builder = VariantBuilder::new().with_metadata(metadata);
+    let (dict, _) = builder.with_value(Variant::Null).finish();
+    assert_eq!(dict, [0x11, 1, 0, 0]);
+}
+
+/// A child that goes on after its own encoding: the builder takes a value, and ours the bytes. Ours takes
+/// what is no value, too, and the Rust then refuses the object.
+#[test]
+fn children_that_are_more_than_a_value() {
+    let (theirs, ours) = both_composed(&[("flow", &[0, 9])]);
+    assert_eq!(theirs, [2, 1, 0, 0, 1, 0]);
+    assert_eq!(ours, Ok(vec![2, 1, 0, 0, 2, 0, 9]));
+    let no_value = lichenhusk::write_object(SORTED, [(0, [0xFC])]).expect("any bytes");
+    assert_eq!(no_value, [2, 1, 0, 0, 1, 0xFC]);
+    assert!(!rust_accepts(SORTED, &no_value));
+}
+
+/// 20: the builder has no limit of length. The longest child of one field that we write has LIMIT - 9
+/// bytes.
+#[test]
+fn an_object_over_the_limit() {
+    let long = encode::binary(LIMIT - 8);
+    let (theirs, ours) = both_composed(&[("flow", &long)]);
+    assert_eq!(theirs.len(), LIMIT + 1);
+    assert_eq!(ours, Err(Refusal::ObjectTooLong));
+    let (theirs, ours) = both_composed(&[("flow", &encode::binary(LIMIT - 9))]);
+    assert_eq!((theirs.len(), Ok(theirs)), (LIMIT, ours));
+}
+
+/// The dictionary of names in no order is not sorted as the Rust's builder writes it with an object, and
+/// its ids are others; handed the names in order beforehand, and the fields in order, it writes what our
+/// writer does.
+#[test]
+fn a_dictionary_and_an_object() {
+    let fields = [("roll", 4), ("flow", -5), ("", 0)];
+    let built = |names: &[&str], fields: &[(&str, i8)]| {
+        let mut builder = VariantBuilder::new().with_field_names(names.iter().copied());
+        let mut object = builder.new_object();
+        for &(name, number) in fields {
+            object.insert(name, Variant::Int8(number));
+        }
+        object.finish();
+        builder.finish()
+    };
+    let child = |number: i8| [0x0C, number as u8];
+    let writer: ObjectWriter = fields
+        .iter()
+        .map(|&(name, number)| (name, child(number)))
+        .collect();
+    let ours = writer.finish().expect("names and children");
+    let theirs = built(&[], &fields);
+    assert_eq!(theirs.0, b"\x01\x03\x00\x04\x08\x08rollflow");
+    assert_eq!(theirs.1[..5], [2, 3, 2, 1, 0]);
+    let mut in_order = fields;
+    in_order.sort_unstable();
+    assert_eq!(built(&["", "flow", "roll"], &in_order), ours);
+    assert_eq!(ours.0, b"\x11\x03\x00\x00\x04\x08flowroll");
+    assert_eq!(ours.1[..5], [2, 3, 0, 1, 2]);
 }
 
 /// Thirty-two fields that share one child, in one another so deep.

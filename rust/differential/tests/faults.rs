@@ -2,18 +2,21 @@
 //! itself agrees; and the archive passes what the wrong ones fail.
 
 use differential::compare::Disagreement;
+use differential::composing::Composing;
 use differential::faults::{ALL, Fault, Faulty};
 use differential::given::{Given, set_of};
+use differential::miscomposing::Miscomposing;
 use differential::miswriting::{Lent, Miswriting};
 use differential::otherwise::Otherwise;
 use differential::ours::{Archive, Reader};
+use differential::pairs::Pairs;
 use differential::path::Followed;
 use differential::reading::Unmeasured;
 use differential::run::{Part, Settings, disagreement, run};
 use differential::tally::Tally;
 use differential::walk::Walk;
 use differential::writing::Writing;
-use differential::{Input, LARGE, fixed, hex, large, paths, sets};
+use differential::{Input, LARGE, fixed, hex, large, objects, paths, sets};
 use lichenhusk::{LEVELS, LIMIT, OK};
 use parquet_variant::VariantMetadata;
 use std::collections::BTreeMap;
@@ -29,6 +32,7 @@ fn small() -> Settings {
         trees: 4_000,
         paths: 4_000,
         written: 4_000,
+        composed: 4_000,
         part: Part::All,
         every: 2,
         telling: 5,
@@ -45,6 +49,7 @@ fn told(fault: Fault) -> (Input, Disagreement) {
     let part = match fault {
         _ if fault.is_of_paths() => Part::Paths,
         _ if fault.is_of_writing() => Part::Writing,
+        _ if fault.is_of_objects() => Part::Objects,
         _ if asked_of_trees(fault).is_some() => Part::Trees,
         _ => Part::All,
     };
@@ -70,6 +75,36 @@ fn the_archive_passes() {
     trees_of_every_kind_are_seen(&outcome.tally);
     paths_of_every_kind_are_seen(&outcome.tally);
     writing_of_every_kind_is_seen(&outcome.tally);
+    objects_of_every_kind_are_seen(&outcome.tally);
+}
+
+/// Objects are written, as the Rust's builder does it and otherwise, in other orders and with too little
+/// scratch and room, and each refusal is seen.
+fn objects_of_every_kind_are_seen(tally: &Tally) {
+    let numbers = [
+        (0, 2_000),
+        (20, 1),
+        (25, 2_000),
+        (26, 2_000),
+        (28, 200),
+        (45, 1_000),
+    ];
+    for (number, least) in numbers {
+        let seen = tally.composed.get(&number);
+        assert!(seen.is_some_and(|&seen| seen > least), "{number}: {seen:?}");
+    }
+    for (what, seen) in [
+        ("built", tally.composed_built),
+        ("not built", tally.composed_unbuilt),
+        ("of no values", tally.composed_of_no_values),
+        ("fields", tally.composed_fields),
+        ("again", tally.composed_again),
+        ("slowly", tally.composed_slowly),
+        ("without room", tally.composed_without_room),
+        ("over a refused dictionary", tally.composed_over_refused),
+    ] {
+        assert!(seen > 200, "{what}: {seen}");
+    }
 }
 
 /// Dictionaries are written, in other orders and with too little scratch and room, and each refusal is
@@ -212,6 +247,23 @@ fn most(fault: Fault) -> usize {
         // Names of five bytes, and an end each.
         Fault::WrittenCountOfTwoBytes => (5 + 4) * entries + few,
         Fault::DoublesByEightBytes => few + 8,
+        Fault::RoomBeforeObjectLimit
+        | Fault::LimitOfChildren
+        | Fault::LimitOfLent
+        | Fault::ObjectLimitOneLess
+        | Fault::ObjectLimitOneMore => LIMIT + 1 + 2 * few,
+        Fault::ObjectLengthOfTwoBytes => (1 << 16) + few,
+        // Names of no bytes, an offset of two bytes each.
+        Fault::IdWidthOfEntries
+        | Fault::IdWidthOfLastEntry
+        | Fault::OneWidthForBoth
+        | Fault::HighestFirstInObjects => (2 << 8) + 2 * few,
+        Fault::OffsetWidthOfLent => (1 << 8) + 2 * few,
+        // Names of six bytes at most, an offset each, and three words.
+        Fault::IdWidthOfFields | Fault::LongCountAt255 => (6 + 2 + 12) * 256 + few,
+        Fault::WrittenFieldsOfTwoBytes => (6 + 3 + 12) * entries + few,
+        // A pair has twelve bytes, and four of them are needed.
+        _ if fault.is_of_objects() => 3 * few,
         // A child of seventeen bytes, or without the last of them.
         Fault::ShortDecimals | Fault::NoUuids => few + 17,
         _ => few,
@@ -231,6 +283,8 @@ fn each_fault_is_told_by_a_small_input() {
         assert_eq!(found.asked, of_trees.unwrap_or(&found.asked), "{fault:?}");
         let of_writing = asked_of_writing(fault);
         assert_eq!(found.asked, of_writing.unwrap_or(&found.asked), "{fault:?}");
+        let of_objects = asked_of_objects(fault);
+        assert_eq!(found.asked, of_objects.unwrap_or(&found.asked), "{fault:?}");
         let of_paths = asked_of_paths(fault);
         assert_eq!(found.asked, of_paths.unwrap_or(&found.asked), "{fault:?}");
         let of_values = asked_of_values(fault);
@@ -276,7 +330,7 @@ fn asked_of_trees(fault: Fault) -> Option<&'static str> {
         Fault::TreeBeforeDictionary => Some("a tree over a refused dictionary"),
         Fault::KeepsMarks | Fault::KeepsMarksRefused => Some("marks after a check"),
         Fault::TrustsMarks => Some("a tree's verdict with marks"),
-        _ if fault.is_of_paths() || fault.is_of_writing() => None,
+        _ if fault.is_of_paths() || fault.is_of_writing() || fault.is_of_objects() => None,
         _ if fault as usize >= Fault::AcceptsAnyTree as usize => Some("a tree's verdict"),
         _ => None,
     }
@@ -321,6 +375,33 @@ fn asked_of_writing(fault: Fault) -> Option<&'static str> {
         _ => fault
             .is_of_writing()
             .then_some("a dictionary that is written"),
+    }
+}
+
+/// What tells a wrong answer to pairs that are to be written; nothing of another fault.
+fn asked_of_objects(fault: Fault) -> Option<&'static str> {
+    use Fault::*;
+    match fault {
+        FieldsAsGiven
+        | FieldsById
+        | FieldsByLength
+        | FieldsBackwards
+        | FieldsSigned
+        | PairsForIds
+        | SwapsChildren
+        | ChildrenAsGiven
+        | IdWidthOfEntries
+        | IdWidthOfLastEntry
+        | IdWidthOneMore
+        | SetsTopBit
+        | HighestFirstInObjects
+        | FillsShortObjectRoom
+        | WritesRefusedHeader
+        | WritesAfterObject
+        | ClearsAfterObject
+        | TrustsObjectOrder => Some("the room for an object"),
+        WritesShortObjectScratch => Some("scratch that is too little for pairs"),
+        _ => fault.is_of_objects().then_some("an object that is written"),
     }
 }
 
@@ -394,6 +475,124 @@ fn the_plain_writer_writes_what_is_due() {
     small.for_each(|input| same(&input).unwrap_or_default());
     sets::each_row(same).unwrap_or_default();
     assert!(count > 50_000, "{count}");
+}
+
+/// Whether a fault of objects is one in the bytes of an object.
+fn is_of_object_bytes(fault: Fault) -> bool {
+    let of_bytes = Fault::FieldsAsGiven as usize..=Fault::NoOffsetOfNoFields as usize;
+    of_bytes.contains(&(fault as usize))
+}
+
+/// What a fault writes for pairs that are taken, read back by us and by the Rust, and held to the Rust's
+/// builder.
+fn told_without_the_plain_writer(fault: Fault) -> Option<String> {
+    let reader = Faulty {
+        reader: Archive,
+        fault,
+    };
+    let asked = |input: Input| {
+        let (dict, pairs) = (&input.dict, input.pairs.as_ref()?);
+        let metadata = VariantMetadata::try_new(dict).ok()?;
+        // Wider numbers and gaps need more room than is due.
+        let mut room = vec![0; 2 * input.size() + 100];
+        let strip = reader.write_object(dict, pairs, &mut [], &mut [], &mut room);
+        if strip.code != OK {
+            return None;
+        }
+        let composing = Composing {
+            reader: &Archive,
+            dict,
+            ours: Archive.dictionary(dict),
+            metadata: Some(&metadata),
+            pairs,
+        };
+        let object = &room[..strip.end as usize];
+        let compared = composing.reads_back(object, strip, &metadata, &mut Tally::default());
+        Some(compared.err()?.asked)
+    };
+    let small = objects::fixed().filter(|input| input.size() < LARGE);
+    small.into_iter().find_map(asked)
+}
+
+/// The plain writer is not all that tells: a wrong object is not the pairs' when it is read back, and one
+/// that says the same in other bytes is not the builder's.
+#[test]
+fn faults_of_objects_without_the_plain_writer() {
+    let same_fields = [
+        Fault::IdWidthOfEntries,
+        Fault::IdWidthOfLastEntry,
+        Fault::IdWidthOfFields,
+        Fault::IdWidthOneMore,
+        Fault::OffsetWidthOneMore,
+        Fault::OffsetWidthOfLent,
+        Fault::OneWidthForBoth,
+        Fault::LongCountAt255,
+        Fault::LongCountOfFew,
+        Fault::SetsTopBit,
+    ];
+    for fault in ALL.into_iter().filter(|&fault| is_of_object_bytes(fault)) {
+        let told = told_without_the_plain_writer(fault);
+        let told = told.unwrap_or_else(|| panic!("{fault:?} is not told"));
+        let is_same = same_fields.contains(&fault);
+        assert_eq!(told == "the builder's bytes", is_same, "{fault:?}: {told}");
+    }
+}
+
+/// A writer of objects without a fault passes, so that it is the fault that is told of each of the
+/// others.
+#[test]
+fn the_plain_writer_of_objects_writes_what_is_due() {
+    let mut count = 0;
+    let mut same = |input: &Input| {
+        let (dict, pairs) = (&input.dict, input.pairs.as_ref().expect("pairs"));
+        let plain = Miscomposing {
+            dict,
+            dictionary: Archive.dictionary(dict),
+            fault: None,
+        };
+        let length = pairs.bytes.len() + 4 * pairs.words.len() + 9;
+        for bytes in [length, 7, 0] {
+            let (mut ours, mut theirs) = (vec![7; bytes], vec![7; bytes]);
+            let strip = Archive.write_object(dict, pairs, &mut [], &mut [], &mut ours);
+            let lent = Lent {
+                order: &mut [],
+                spare: &mut [],
+                room: &mut theirs,
+            };
+            let plain = plain.answer(pairs, lent);
+            assert_eq!((strip, ours), (plain, theirs), "{input:?}");
+            count += 1;
+        }
+        Ok::<(), ()>(())
+    };
+    let small = objects::fixed().filter(|input| input.size() < LARGE);
+    small.for_each(|input| same(&input).unwrap_or_default());
+    objects::each_row(&mut same).unwrap_or_default();
+    objects::each_words(5, same).unwrap_or_default();
+    assert!(count > 60_000, "{count}");
+}
+
+/// What a wrong writer of objects is told by, to the word.
+#[test]
+fn pairs_that_tell() {
+    for (fault, dict, words) in [
+        (
+            Fault::FieldsAsGiven,
+            "010200000100",
+            &[0, 0, 1, 1, 0, 1][..],
+        ),
+        (Fault::TakesCutPair, "010000", &[]),
+        (Fault::EmptyBeforeRanges, "01010000", &[0, 1, 1]),
+        (Fault::RangesWithEmpty, "010200000100", &[0, 0, 0, 1, 0, 1]),
+        (Fault::DoublesById, "0102000000", &[0, 0, 0, 1, 0, 0]),
+        (Fault::DoublesAtTheEarlier, "01010000", &[0, 0, 0, 0, 0, 0]),
+        (Fault::WritesRefusedHeader, "010000", &[0, 0, 0]),
+    ] {
+        let (input, _) = told(fault);
+        let pairs = input.pairs.expect("pairs");
+        let told = (hex(&input.dict), &pairs.words[..]);
+        assert_eq!(told, (dict.to_string(), words), "{fault:?}");
+    }
 }
 
 /// What a wrong writer is told by, to the byte.
@@ -481,7 +680,7 @@ fn every_fault_is_tried() {
             "in the order of the enum, none left out"
         );
     }
-    assert_eq!(Fault::TrustsOrder as usize, ALL.len() - 1);
+    assert_eq!(Fault::TrustsObjectOrder as usize, ALL.len() - 1);
 }
 
 /// Of very many fields, the lookup of all their names is told, which stands for the listing.
@@ -601,6 +800,16 @@ fn a_panic_is_told() {
             &self,
             _: &[u8],
             _: &[u32],
+            _: &mut [u32],
+            _: &mut [u32],
+            _: &mut [u8],
+        ) -> lichenhusk::Strip {
+            unreachable!()
+        }
+        fn write_object(
+            &self,
+            _: &[u8],
+            _: &Pairs,
             _: &mut [u32],
             _: &mut [u32],
             _: &mut [u8],

@@ -22,7 +22,7 @@ use differential::{
     Input, LARGE, children, damage, extremes, fixed, generate, hex, large, otherwise, paths, sets,
     shrink, trees,
 };
-use indexmap::IndexSet;
+use indexmap::{IndexMap, IndexSet};
 use lichenhusk::LIMIT;
 use parquet_variant::{Variant, VariantMetadata, VariantObject};
 use std::collections::BTreeSet;
@@ -783,4 +783,23 @@ fn a_set_of_one_hash() {
     set.truncate(0);
     assert_eq!(set.insert_full(Alike(2)), (0, true));
     assert_eq!(set.iter().count(), 1);
+}
+
+/// The stand-in for the builder's map keeps keys apart that have one hash, finds them after it was
+/// sorted, and forgets what it is cut by.
+#[test]
+fn a_map_of_one_hash() {
+    let mut map = IndexMap::new();
+    for number in [3, 1, 2] {
+        assert_eq!(map.insert(Alike(number), number), None);
+    }
+    assert_eq!(map.insert(Alike(1), 7), Some(1));
+    map.sort_by(|a, _, b, _| a.0.cmp(&b.0));
+    let values: Vec<u32> = map.values().copied().collect();
+    assert_eq!(values, [7, 2, 3]);
+    assert_eq!(map.insert(Alike(3), 9), Some(3));
+    map.truncate(1);
+    assert_eq!((map.len(), map.insert(Alike(3), 4)), (1, None));
+    assert_eq!(map.insert(Alike(1), 0), Some(7));
+    assert_eq!(map.keys().map(|key| key.0).collect::<Vec<_>>(), [1, 3]);
 }

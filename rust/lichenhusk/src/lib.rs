@@ -1,12 +1,13 @@
 //! Safe calls to Lichenhusk, a reader of the Variant binary encoding of Apache Parquet, and a writer of
-//! its dictionaries, whose code is proved to meet its definitions.
+//! its dictionaries and objects, whose code is proved to meet its definitions.
 //!
 //! A Variant comes as two buffers: a dictionary of field names and a value. This crate checks a
 //! dictionary and one layer of an object, finds a field by its name, or many by theirs, lists the
 //! fields, and reads a value. It does not look into the children, but for how long each is where they
 //! are listed: a child is handed back as bytes of the object, which can be read as a value in turn.
 //! [`check_tree`] checks a value with all that is below it, and [`path`](path()) follows names and
-//! indices into it. [`write_dictionary`] writes a dictionary of names.
+//! indices into it. [`write_dictionary`] writes a dictionary of names, [`write_object`] an object over
+//! one, and an [`ObjectWriter`] both, of names and the bytes of their children.
 //!
 //! Each call checks what it is lent from the start, keeps nothing, and copies nothing but what it
 //! writes. Any bytes may be lent; what is wrong with them is a [`Refusal`] with a number and a place.
@@ -32,8 +33,12 @@
 //! let [flow, roll] = Message::new(dict, object).children(["flow", "roll"])?;
 //! assert_eq!((flow, roll), (Some(&object[8..10]), Some(&object[7..10])));
 //!
-//! for field in lichenhusk::list(dict, object)? {
-//!     let name = lichenhusk::name(dict, field.id as usize)?;
+//! // Names and children, in any order, become a dictionary and an object.
+//! let mut writer = lichenhusk::ObjectWriter::new();
+//! let (dict, object) = writer.field("roll", [0x04]).field("flow", [0x0C, 0xFB]).finish()?;
+//!
+//! for field in lichenhusk::list(&dict, &object)? {
+//!     let name = lichenhusk::name(&dict, field.id as usize)?;
 //!     println!("{}: {:02X?}", String::from_utf8_lossy(name), field.child);
 //! }
 //! # Ok::<(), lichenhusk::Refusal>(())
@@ -51,6 +56,7 @@ mod strip;
 mod tree;
 mod value;
 mod write;
+mod write_object;
 
 pub use message::Message;
 pub use path::{Reached, path, path_with};
@@ -59,6 +65,7 @@ pub use strip::Strip;
 pub use tree::{TreeRefusal, check_tree, check_tree_with};
 pub use value::{Child, Kind, Value, find, value};
 pub use write::{Written, write_dictionary, write_dictionary_into};
+pub use write_object::{ObjectWriter, write_object, write_object_into};
 
 /// The most bytes that a dictionary, or an object, may have.
 pub const LIMIT: usize = 16_777_216;
@@ -74,6 +81,9 @@ pub const WORDS_PER_NAME: usize = 5;
 
 /// The words for each step of a path.
 pub const WORDS_PER_STEP: usize = 3;
+
+/// The words for each pair that an object is written of.
+pub const WORDS_PER_PAIR: usize = 3;
 
 /// The most objects and lists that may stand in one another in a tree.
 pub const LEVELS: usize = 32;
@@ -96,7 +106,7 @@ pub struct Dictionary {
     pub end: usize,
 }
 
-/// An accepted layer of an object.
+/// An accepted layer of an object, or one that was written.
 #[derive(Clone, Copy, Debug, PartialEq, Eq, Hash)]
 pub struct Layer {
     /// How many fields it has.

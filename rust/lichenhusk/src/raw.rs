@@ -123,6 +123,23 @@ unsafe extern "C" {
         strip_len: usize,
     ) -> u32;
 
+    fn lichenhusk_write_object(
+        dict: *const u8,
+        dict_len: usize,
+        bytes: *const u8,
+        bytes_len: usize,
+        pairs: *const u32,
+        pairs_len: usize,
+        order: *mut u32,
+        order_len: usize,
+        spare: *mut u32,
+        spare_len: usize,
+        room: *mut u8,
+        room_len: usize,
+        strip: *mut u8,
+        strip_len: usize,
+    ) -> u32;
+
     fn lichenhusk_empty(room: *mut u8, room_len: usize) -> u32;
 }
 
@@ -294,6 +311,38 @@ pub fn write_dictionary(
             run.len(),
             ends.as_ptr(),
             ends.len(),
+            order.as_mut_ptr(),
+            order.len(),
+            spare.as_mut_ptr(),
+            spare.len(),
+            room.as_mut_ptr(),
+            room.len(),
+            strip.as_mut_ptr(),
+            strip.len(),
+        )
+    }
+}
+
+/// Writes the object of pairs, three words each, id, start and end in the bytes, to the first bytes of a
+/// room; the strip is that of its layer. The two rows of words are scratch, as of [`write_dictionary`].
+pub fn write_object(
+    dict: &[u8],
+    bytes: &[u8],
+    pairs: &[u32],
+    order: &mut [u32],
+    spare: &mut [u32],
+    room: &mut [u8],
+    strip: &mut [u8],
+) -> u32 {
+    // SAFETY: as the head of this module says.
+    unsafe {
+        lichenhusk_write_object(
+            dict.as_ptr(),
+            dict.len(),
+            bytes.as_ptr(),
+            bytes.len(),
+            pairs.as_ptr(),
+            pairs.len(),
             order.as_mut_ptr(),
             order.len(),
             spare.as_mut_ptr(),

@@ -13,7 +13,9 @@ use std::fmt;
 /// value that is read gets 50 or 51 and no other. Of a tree, an object or a list has its own checks
 /// before its children, and these come in their order. A path's own refusals, 70 to 76, come before
 /// the dictionary's, and then the value is checked step by step. Of a dictionary that is written, 45 of
-/// all names comes first, then 10, and 46 last.
+/// all names comes first, then 10, and 46 last. Of an object that is written, each of 25, 26, 45 and 28
+/// is looked for in all pairs, in this order, after the dictionary; then come 20 and 46. The field, or
+/// the name, of these four is the pair, in the order in which they are given.
 ///
 /// ```
 /// let refusal = lichenhusk::dictionary(&[1, 1, 0, 1, 0xFF]).unwrap_err();
@@ -67,7 +69,7 @@ pub enum Refusal {
         /// How many bytes, from the first name's first byte, are well formed.
         prefix: u32,
     },
-    /// 20: the object is longer than [`LIMIT`].
+    /// 20: the object is longer than [`LIMIT`], or the one to be written would be.
     ObjectTooLong,
     /// 21: the object has no bytes.
     ObjectEmpty,
@@ -77,12 +79,13 @@ pub enum Refusal {
     ObjectShort,
     /// 24: the object's count or last offset asks for a place above 4,294,967,295.
     ObjectOverflow,
-    /// 25: a field's id names no entry of the dictionary.
+    /// 25: a field's id names no entry of the dictionary. Of an object to be written, so does a pair's.
     ObjectId {
         /// The first such field.
         field: u32,
     },
-    /// 26: a field's name is not above the name of the field before.
+    /// 26: a field's name is not above the name of the field before. Of an object to be written, a pair
+    /// has the name of an earlier one, whichever entries they are.
     ObjectOrder {
         /// The first such field.
         field: u32,
@@ -92,7 +95,8 @@ pub enum Refusal {
         /// The first such field, with none before it that gets 28.
         field: u32,
     },
-    /// 28: a field's child has no bytes, since its offset is the length of the children's bytes.
+    /// 28: a field's child has no bytes, since its offset is the length of the children's bytes. Of an
+    /// object to be written, a pair's child starts where it ends.
     ObjectChildEmpty {
         /// The first such field, with none before it that gets 27.
         field: u32,
@@ -113,12 +117,13 @@ pub enum Refusal {
         field: u32,
     },
     /// 45: of many names, the end of one falls below where it begins or passes the run of names; or,
-    /// of names that are to be written, one is not UTF-8.
+    /// of names that are to be written, one is not UTF-8. Of an object to be written, the end of a pair's
+    /// child is below its start or passes the bytes that are lent.
     NamesEnd {
-        /// The first such name.
+        /// The first such name, or pair.
         name: u32,
     },
-    /// 46: there are fewer bytes of room than the dictionary has that is to be written.
+    /// 46: there are fewer bytes of room than the dictionary, or the object, has that is to be written.
     WriteNoRoom,
     /// 50: the value has no bytes, its header is cut, or its own length passes its bytes or
     /// 4,294,967,295.
@@ -346,16 +351,15 @@ impl fmt::Display for Refusal {
             ),
             ObjectOrder { field } => write!(
                 to,
-                "the name of the object's field {field} is not above that of the field before"
+                "the name of the object's field {field} is not above that of the field before, or is to be written and is an earlier one's"
             ),
             ObjectOffset { field } => write!(
                 to,
                 "the offset of the object's field {field} is above the length of the children's bytes"
             ),
-            ObjectChildEmpty { field } => write!(
-                to,
-                "the child of the object's field {field} has no bytes: its offset is the length of the children's bytes"
-            ),
+            ObjectChildEmpty { field } => {
+                write!(to, "the child of the object's field {field} has no bytes")
+            }
             NoSuchEntry => write!(to, "the dictionary has no entry of that number"),
             StripTooShort => write!(to, "the strip is shorter than {STRIP_BYTES} bytes"),
             WordsTooFew => write!(
@@ -372,11 +376,11 @@ impl fmt::Display for Refusal {
             ),
             NamesEnd { name } => write!(
                 to,
-                "the end of name {name} falls below where it begins or passes the run of names, or the name is to be written and is not UTF-8"
+                "the end of name {name}, or of field {name} to be written, falls below where it begins or passes the bytes, or the name is to be written and is not UTF-8"
             ),
             WriteNoRoom => write!(
                 to,
-                "there are fewer bytes of room than the dictionary to be written has"
+                "there are fewer bytes of room than the dictionary or the object to be written has"
             ),
             ValueShort => write!(
                 to,

@@ -25,7 +25,7 @@ pub struct Strip {
     /// that is refused, where the value starts that it is for.
     pub start: u32,
     /// Where it ends; of such a value, the high half; of a tree, how long the value is; of a dictionary
-    /// that was written, how long that is.
+    /// or an object that was written, how long that is.
     pub end: u32,
     /// The place of a refusal.
     pub place: u32,

@@ -44,9 +44,14 @@ pub fn write_dictionary(names: impl IntoIterator<Item: AsRef<[u8]>>) -> Result<V
     // They are measured before a byte of them is copied.
     let names: Vec<_> = names.into_iter().collect();
     let (run, ends) = run_of(&names).map_err(|_| Refusal::DictionaryTooLong)?;
+    dictionary_of(&run, &ends)
+}
+
+/// The dictionary of names in a run.
+pub(crate) fn dictionary_of(run: &[u8], ends: &[u32]) -> Result<Vec<u8>, Refusal> {
     let (mut order, mut spare) = (vec![0; ends.len()], vec![0; ends.len()]);
     let mut room = vec![0; enough(ends.len(), run.len())];
-    let written = write_dictionary_into(&run, &ends, &mut order, &mut spare, &mut room)?;
+    let written = write_dictionary_into(run, ends, &mut order, &mut spare, &mut room)?;
     room.truncate(written.length);
     room.shrink_to_fit();
     Ok(room)
@@ -55,13 +60,19 @@ pub fn write_dictionary(names: impl IntoIterator<Item: AsRef<[u8]>>) -> Result<V
 /// As many bytes as the dictionary of so many names, of so many bytes together, can have; or the limit,
 /// where that is less. A name that is given twice leaves some of them over, and no other does.
 fn enough(names: usize, bytes: usize) -> usize {
-    let width = match names.max(bytes) {
+    (1 + width(names.max(bytes)) * (names + 2))
+        .saturating_add(bytes)
+        .min(LIMIT)
+}
+
+/// The fewest bytes that hold a number, of 32 bits.
+pub(crate) fn width(number: usize) -> usize {
+    match number {
         0..=0xFF => 1,
         0x100..=0xFFFF => 2,
         0x1_0000..=0xFF_FFFF => 3,
         _ => 4,
-    };
-    (1 + width * (names + 2)).saturating_add(bytes).min(LIMIT)
+    }
 }
 
 /// As [`write_dictionary`], of names in a run, into room that is lent; this allocates nothing.

@@ -2,7 +2,7 @@
 
 use lichenhusk::{
     ABSENT, Kind, LEVELS, LIMIT, OK, OWN_MARKS, Refusal, STRIP_BYTES, WORDS_PER_FIELD,
-    WORDS_PER_NAME, WORDS_PER_STEP,
+    WORDS_PER_NAME, WORDS_PER_PAIR, WORDS_PER_STEP,
 };
 use std::collections::BTreeMap;
 use std::fmt::Debug;
@@ -62,6 +62,10 @@ fn every_number_is_there() {
         (
             "LICHENHUSK_WORDS_PER_STEP".to_string(),
             WORDS_PER_STEP as u32,
+        ),
+        (
+            "LICHENHUSK_WORDS_PER_PAIR".to_string(),
+            WORDS_PER_PAIR as u32,
         ),
         ("LICHENHUSK_EMPTY_BYTES".to_string(), 3),
         ("LICHENHUSK_LEVELS".to_string(), LEVELS as u32),
@@ -313,7 +317,7 @@ fn the_piece_prints(name: &str, said: &str, prints: &str) {
 
 #[test]
 fn the_example_of_a_path_runs() {
-    let said = "With the example's dictionary, this prints";
+    let said = "With the example's dictionary, this prints \"-5\"";
     the_piece_prints("path", said, "-5");
 }
 
@@ -321,6 +325,12 @@ fn the_example_of_a_path_runs() {
 fn the_example_of_writing_runs() {
     let said = "This makes the example's dictionary, and prints";
     the_piece_prints("written", said, "2 names, 13 bytes");
+}
+
+#[test]
+fn the_example_of_writing_an_object_runs() {
+    let said = "With the example's dictionary, this prints \"2";
+    the_piece_prints("object", said, "2 fields, 10 bytes");
 }
 
 /// Names written with scratch and without, then a name that is no text, and too little room, which both
@@ -382,6 +392,91 @@ fn writing_from_c() {
     assert_eq!(
         printed("write", WRITE),
         format!("{dict} {dict}; name 3 {left}; no room {left}\n")
+    );
+}
+
+/// Two fields written with scratch and without, the second with a word left over; then, each leaving the
+/// room, an id that is none before a range that passes the bytes, that range, a name twice, a child of no
+/// bytes, and too little room.
+const WRITE_OBJECT: &str = r#"
+#include <stdio.h>
+#include "lichenhusk.h"
+
+static uint8_t strip[LICHENHUSK_STRIP_BYTES];
+static uint8_t room[11];
+
+static uint32_t put(const uint32_t *pairs, size_t words, size_t scratch, size_t bytes)
+{
+    const uint8_t dict[] = {0x11, 2, 0, 4, 8, 'f', 'l', 'o', 'w', 'r', 'o', 'l', 'l'};
+    const uint8_t children[] = {0x04, 0x0C, 0xFB};
+    uint32_t order[3], spare[3];
+    size_t k;
+
+    for (k = 0; k < sizeof room; k++)
+        room[k] = 7;
+    return lichenhusk_write_object(dict, sizeof dict, children, sizeof children, pairs, words,
+                                   order, scratch, spare, scratch, room, bytes,
+                                   strip, sizeof strip);
+}
+
+static void print(void)
+{
+    size_t k;
+
+    for (k = 0; k < sizeof room; k++)
+        printf("%02X", (unsigned) room[k]);
+}
+
+static void refused(void)
+{
+    printf(" %u at %u ", (unsigned) lichenhusk_word(strip, LICHENHUSK_CODE),
+           (unsigned) lichenhusk_word(strip, LICHENHUSK_PLACE));
+    print();
+}
+
+int main(void)
+{
+    const uint32_t good[] = {1, 0, 1, 0, 1, 3, 9};
+    const uint32_t no_entry[] = {1, 0, 4, 2, 0, 1};
+    const uint32_t twice[] = {1, 0, 4, 0, 0, 1, 1, 0, 1};
+    const uint32_t empty[] = {1, 0, 1, 0, 3, 3};
+
+    if (put(good, 6, 2, sizeof room) != LICHENHUSK_OK)
+        return 1;
+    print();
+    if (put(good, 7, 1, 10) != LICHENHUSK_OK)
+        return 2;
+    printf(" ");
+    print();
+    if (put(no_entry, 6, 3, sizeof room) != LICHENHUSK_OBJECT_ID)
+        return 3;
+    refused();
+    if (put(no_entry, 3, 3, sizeof room) != LICHENHUSK_NAMES_END)
+        return 4;
+    refused();
+    if (put(twice, 9, 3, sizeof room) != LICHENHUSK_OBJECT_ORDER)
+        return 5;
+    refused();
+    if (put(empty, 6, 3, sizeof room) != LICHENHUSK_OBJECT_CHILD_EMPTY)
+        return 6;
+    refused();
+    if (put(good, 6, 3, 9) != LICHENHUSK_WRITE_NO_ROOM)
+        return 7;
+    refused();
+    printf("\n");
+    return 0;
+}
+"#;
+
+#[test]
+fn writing_an_object_from_c() {
+    let object = "020200010002030CFB0407";
+    let left = "07".repeat(11);
+    let refused = ["25 at 1", "45 at 0", "26 at 2", "28 at 1", "46 at 0"];
+    let refused = refused.map(|words| format!(" {words} {left}")).concat();
+    assert_eq!(
+        printed("write_object", WRITE_OBJECT),
+        format!("{object} {object}{refused}\n")
     );
 }
 

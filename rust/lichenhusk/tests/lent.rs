@@ -18,7 +18,7 @@ const CHILD_UNKNOWN: &str = "02 02 00 01 00 01 02 00 FC";
 type Call = (&'static str, fn(&mut [u8]) -> u32);
 
 /// Each call that fills a strip, on bytes that are accepted.
-fn calls() -> [Call; 10] {
+fn calls() -> [Call; 11] {
     [
         ("lookup", |strip| {
             raw::lookup(&hex(D), &hex(P), b"roll", strip)
@@ -44,11 +44,16 @@ fn calls() -> [Call; 10] {
             let (order, spare, room) = (&mut [7; 2], &mut [7; 2], &mut [7; 14]);
             raw::write_dictionary(b"rollflow", &[4, 8], order, spare, room, strip)
         }),
+        ("write_object", |strip| {
+            let (order, spare, room) = (&mut [7; 2], &mut [7; 2], &mut [7; 14]);
+            let pairs = [1, 0, 1, 0, 0, 1];
+            raw::write_object(&hex(D), &[4], &pairs, order, spare, room, strip)
+        }),
     ]
 }
 
 /// Each call that fills a strip, on bytes that are refused.
-fn refused_calls() -> [Call; 10] {
+fn refused_calls() -> [Call; 11] {
     [
         ("lookup", |strip| raw::lookup(&[2], &hex(P), b"roll", strip)),
         ("dictionary", |strip| raw::dictionary(&[2], strip)),
@@ -67,6 +72,10 @@ fn refused_calls() -> [Call; 10] {
         ("write_dictionary", |strip| {
             let (order, spare, room) = (&mut [7; 1], &mut [7; 1], &mut [7; 14]);
             raw::write_dictionary(b"\xFF", &[1], order, spare, room, strip)
+        }),
+        ("write_object", |strip| {
+            let (order, spare, room) = (&mut [7; 1], &mut [7; 1], &mut [7; 14]);
+            raw::write_object(&hex(D), &[4], &[2, 0, 1], order, spare, room, strip)
         }),
     ]
 }
@@ -142,11 +151,12 @@ fn every_word_of_each_answer() {
         [0, 0, 0, 0, 10, 0],
         [0, 1, 1, 7, 10, 0],
         [0, 2, 0, 0, 13, 0],
+        [0, 2, 0, 7, 9, 0],
     ];
     for ((name, call), answer) in calls().into_iter().zip(answers) {
         assert_eq!(words_of(call), answer, "{name}");
     }
-    let numbers = [12, 12, 12, 12, 12, 12, 51, 12, 12, 45];
+    let numbers = [12, 12, 12, 12, 12, 12, 51, 12, 12, 45, 25];
     for ((name, call), number) in refused_calls().into_iter().zip(numbers) {
         assert_eq!(words_of(call), [number, 0, 0, 0, 0, 0], "{name}");
     }

@@ -1,7 +1,7 @@
 -- `fill::width_for` meets its contract: that of the larger. Assumes nothing.
 use Prim.Native.Nat.{max}
 use Rattle.rules.proofs.Prelude.{_≡_, _∙_, ap, arith, needs}
-use Rattle.fill.specs.Bytes.{widthOf}
+use Rattle.lay.specs.Bytes.{widthOf}
 use Rattle.fill.proofs.width_for.Statement.{statement}
 use Rattle.fill.proofs.width_for.Tie as tie
 

@@ -1,0 +1,6 @@
+pub mod Writing
+pub mod Meaning
+pub mod Answers
+pub mod Promises
+pub mod Steps
+pub mod Worked
