@@ -3,9 +3,7 @@ use Prim.Native.Nat.{max}
 use Rattle.rules.proofs.Prelude.{_≡_, refl, sym, ap, ap₂, _∙_, List, [], _∷_, _++_, ℕ, _+_, _*_, _≤_, _<_, arith, length, drop, sets, sets-eq, _&_}
 use Rattle.rules.proofs.Prelude.{accept, refuse, Found, pass, stop, _orElse_, _otherwise_, first-at, first-pass, refused, answered, stops, goes, unlessRefused}
 use Rattle.dictionary.specs.Limits.{limit}
-use Rattle.dictionary.specs.declared.Header.{Header}
-use Rattle.dictionary.specs.declared.Head.the-variants as head
-use Rattle.metadata.specs.Steps.{CheckedOf}
+use Rattle.dictionary.specs.Dictionary as dictionary
 use Rattle.sets.specs.Sets.{Distinct, total}
 use Rattle.source.specs.declared.Source.the-variants as source
 use Rattle.source.specs.Names.{nameOf, countOf, Entries, Sound}
@@ -125,18 +123,20 @@ module _ {d bytes words room : List ℕ} where
 
 -- PAIRS as a source of names, over a dictionary that was checked
 
-module _ (d words : List ℕ) (h : Header) where
-  pub doubles-are : doubles.checks (nameOf d words (source.Pairs h)) (countOf words (source.Pairs h)) ≡ doubles.checks (pairName d words) (pairs words)
+module _ (d words : List ℕ) (names : ℕ) where
+  pub doubles-are : doubles.checks (nameOf d words (source.Pairs names)) (countOf words (source.Pairs names)) ≡ doubles.checks (pairName d words) (pairs words)
   unfolding nameOf countOf pairName
   doubles-are = refl
 
-  pub sound-pairs : CheckedOf d (head.Good h) → Entries d words → Sound d words (source.Pairs h)
-  unfolding Sound
-  sound-pairs c e = (c, e)
+  module _ (over : dictionary.checks d ≡ pass) (starts : names ≡ dictionary.start d) (entries : Entries d words) where
+    pub sound-pairs : Sound d words (source.Pairs names)
+    unfolding Sound
+    sound-pairs = (over, starts, entries)
 
-  pub ready : {order : List ℕ} {plan : Plan} → CheckedOf d (head.Good h) → Entries d words → None d words (source.Pairs h) order plan → Ready d words order plan h
-  ready c e n =
-      record { over = c; entries = e; distinct = good (pairName d words) (pairs words) .0 (sym doubles-are ∙ n .passes); planned = n .planned }
+    pub ready : {order : List ℕ} {plan : Plan} → None d words (source.Pairs names) order plan → Ready d words order plan names
+    ready n =
+        let alone = good (pairName d words) (pairs words) .0 (sym doubles-are ∙ n .passes) in
+        record { over = over; starts = starts; entries = entries; distinct = alone; planned = n .planned }
 
 -- ALL OF IT
 

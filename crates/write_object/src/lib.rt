@@ -1,8 +1,8 @@
 // Writing an object layer from pairs over a dictionary (document 02, k).
 ghost use mathlib.Core.Path.{_≡_};
 ghost use Rattle.rules.specs.Rules.{_orElse_};
-ghost use Rattle.dictionary.specs.declared.Head.the-variants as head;
-ghost use Rattle.metadata.specs.Steps.{CheckedOf};
+ghost use Rattle.rules.specs.Rules.Found.{pass};
+ghost use Rattle.dictionary.specs.Dictionary.{checks as dictionaryChecks, start as regionOf};
 ghost use Rattle.source.specs.Pairs.{pairs};
 ghost use Rattle.source.specs.Names.{Entries, GoodRanges};
 ghost use Rattle.doubles.specs.Doubles.{checks as doubleChecks};
@@ -13,7 +13,6 @@ ghost use Rattle.write_object.specs.Writing.{sizeChecks};
 ghost use Rattle.write_object.specs.Steps.{Left};
 ghost use Rattle.write_object.specs.Promises.{ObjectPromise};
 use dictionary::Head;
-use dictionary::Header;
 use dictionary::Refusal;
 use doubles::Doubles;
 use lay::Measured;
@@ -38,7 +37,8 @@ pub enum Built {
     },
 }
 
-// Once the pairs are known to be good, and `most` is their largest id: the sizes, 20, 46, and the bytes.
+// Once the pairs are known to be good: the sizes, 20, 46, and the bytes. `most` is their largest id, and the dictionary's names start at
+// `names`.
 fn finish(
     dict: &[u8],
     bytes: &[u8],
@@ -47,12 +47,12 @@ fn finish(
     plan: Plan,
     room: &mut [u8],
     most: usize,
-    h: Header,
+    names: usize,
 ) -> Built
-    requires { ⌜ Ready (now dict) (now words) (now order) plan h × GoodRanges (now bytes) (now words) × (most ≡ largest (now words) (pairs (now words))) ⌝ }
+    requires { ⌜ Ready (now dict) (now words) (now order) plan names × GoodRanges (now bytes) (now words) × (most ≡ largest (now words) (pairs (now words))) ⌝ }
     ensures { λ r. ⌜ Left (sizeChecks (size (now (dict .entry)) (now (bytes .entry)) (now (words .entry))) (now (room .entry))) (now (dict .entry)) (now (bytes .entry)) (now (words .entry)) (now (room .entry)) (now (room .exit)) r ⌝ }
 {
-    let sizes = lay::measure(dict, words, bytes, order, plan, Source::Pairs(h));
+    let sizes = lay::measure(dict, words, bytes, order, plan, Source::Pairs(names));
     match sizes {
         Measured::TooLong => Built::TooLong,
         Measured::Sizes { count, sum } => {
@@ -67,7 +67,7 @@ fn finish(
                 return Built::NoRoom;
             }
             builder::write_all(
-                dict, bytes, words, order, plan, room, wi, wo, count, start, h,
+                dict, bytes, words, order, plan, room, wi, wo, count, start, names,
             );
             Built::Built {
                 count,
@@ -87,16 +87,16 @@ fn with_children(
     plan: Plan,
     room: &mut [u8],
     most: usize,
-    h: Header,
+    names: usize,
 ) -> Built
-    requires { ⌜ Ready (now dict) (now words) (now order) plan h × (most ≡ largest (now words) (pairs (now words))) ⌝ }
+    requires { ⌜ Ready (now dict) (now words) (now order) plan names × (most ≡ largest (now words) (pairs (now words))) ⌝ }
     ensures { λ r. ⌜ Left (rangeChecks (now (bytes .entry)) (now (words .entry)) orElse emptyChecks (now (words .entry)) orElse sizeChecks (size (now (dict .entry)) (now (bytes .entry)) (now (words .entry))) (now (room .entry))) (now (dict .entry)) (now (bytes .entry)) (now (words .entry)) (now (room .entry)) (now (room .exit)) r ⌝ }
 {
     let children = pairs::check_children(bytes, words);
     match children {
         Children::Outside(k) => Built::Outside(k),
         Children::Empty(k) => Built::EmptyChild(k),
-        Children::Good => finish(dict, bytes, words, order, plan, room, most, h),
+        Children::Good => finish(dict, bytes, words, order, plan, room, most, names),
     }
 }
 
@@ -109,15 +109,15 @@ fn with_names(
     spare: &mut [u32],
     room: &mut [u8],
     most: usize,
-    h: Header,
+    names: usize,
 ) -> Built
-    requires { ⌜ CheckedOf (now dict) (head.Good h) × Entries (now dict) (now words) × (most ≡ largest (now words) (pairs (now words))) ⌝ }
+    requires { ⌜ (dictionaryChecks (now dict) ≡ pass) × (names ≡ regionOf (now dict)) × Entries (now dict) (now words) × (most ≡ largest (now words) (pairs (now words))) ⌝ }
     ensures { λ r. ⌜ Left (doubleChecks (pairName (now (dict .entry)) (now (words .entry))) (pairs (now (words .entry))) orElse rangeChecks (now (bytes .entry)) (now (words .entry)) orElse emptyChecks (now (words .entry)) orElse sizeChecks (size (now (dict .entry)) (now (bytes .entry)) (now (words .entry))) (now (room .entry))) (now (dict .entry)) (now (bytes .entry)) (now (words .entry)) (now (room .entry)) (now (room .exit)) r ⌝ }
 {
-    let doubles = doubles::check(dict, words, order, spare, Source::Pairs(h));
+    let doubles = doubles::check(dict, words, order, spare, Source::Pairs(names));
     match doubles {
         Doubles::At(k) => Built::Double(k),
-        Doubles::None(plan) => with_children(dict, bytes, words, order, plan, room, most, h),
+        Doubles::None(plan) => with_children(dict, bytes, words, order, plan, room, most, names),
     }
 }
 
@@ -142,7 +142,7 @@ pub fn write_object(
             match ids {
                 Ids::NoSuchEntry(k) => Built::NoSuchEntry(k),
                 Ids::Good(most) => {
-                    with_names(dict, bytes, words, order, spare, room, most, h)
+                    with_names(dict, bytes, words, order, spare, room, most, h.start)
                 }
             }
         }
