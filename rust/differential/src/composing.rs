@@ -156,7 +156,8 @@ impl<'d, R: Reader> Composing<'_, 'd, R> {
         Ok(room)
     }
 
-    /// A refusal that is not one of room: in none, in a little, and in as much as can be asked for.
+    /// A refusal that is not one of room: in none, in a little, and in much; in a little without scratch,
+    /// too.
     fn in_any_room(&self, due: &Due) -> Compared {
         let most = match due.strip.code {
             20 => LIMIT + 1,
@@ -284,8 +285,8 @@ impl<'d, R: Reader> Composing<'_, 'd, R> {
         apart
     }
 
-    /// Pairs of which one is bad: refused there, in any room and with any scratch; so are the pairs up to
-    /// it, and of those before it something else is due.
+    /// Pairs of which one is bad: refused there, with scratch and without; so are the pairs up to it, and
+    /// of those before it something else is due.
     fn bad(&self, due: &Due, names: &[&[u8]]) -> Compared {
         self.in_any_room(due)?;
         let place = due.strip.place as usize;
