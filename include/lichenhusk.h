@@ -692,7 +692,7 @@ uint32_t lichenhusk_write_dictionary(const uint8_t *run, size_t run_len,
  * for each pair, pairs_len / 3, or more in both, the pairs are sorted there: the time
  * grows with the dictionary, with the object, and as that of sorting, with n log n
  * for n pairs, whatever order they come in. Where a name comes again, some log n more
- * such sorts find 26's place, and the same names are compared to their ends. With
+ * such sorts find 26's place, and the same names may be compared to their ends. With
  * fewer in either, each next name is looked for among all: scratch is not written then
  * (which is tested, and not proved), and the time grows with the square of n.
  *
