@@ -142,3 +142,10 @@ module _ (d words : List ℕ) (names : ℕ) (sorts : Bool) where
 pub promised : {d bytes words room after : List ℕ} {r : Built} → Left (checks d bytes words room) d bytes words room after r → ObjectPromise d bytes words room r after
 unfolding written roomAfter
 promised l = record { answer = l .answer; leaves = l .leaves }
+
+-- fewer fields than bytes before the region, and these are no more than all
+pub size-above : (d bytes words : List ℕ) → Distinct (pairName d words) 0 (pairs words) → (pairs words < start d bytes words) × (start d bytes words ≤ size d bytes words)
+unfolding start offsetWidth
+size-above d bytes words alone =
+    let above = start-above (idWidth words) (widthOf (total (children d bytes words))) (pairs words) (width-some (total (children d bytes words))) in
+    (above, omega (arith, size-is d bytes words alone))

@@ -51,10 +51,17 @@ fn finish(
     requires { ⌜ Ready (now dict) (now words) (now order) plan names sorted × GoodRanges (now bytes) (now words) × (most ≡ largest (now words) (pairs (now words))) ⌝ }
     ensures { λ r. ⌜ Left (sizeChecks (size (now (dict .entry)) (now (bytes .entry)) (now (words .entry))) (now (room .entry))) (now (dict .entry)) (now (bytes .entry)) (now (words .entry)) (now (room .entry)) (now (room .exit)) r ⌝ }
 {
-    let sizes = lay::measure(dict, words, bytes, order, plan, Source::Pairs {
+    let sizes = lay::measure(
+        dict,
+        words,
+        bytes,
+        order,
+        plan,
+        Source::Pairs {
             region: names,
             sorted,
-        });
+        },
+    );
     match sizes {
         Measured::TooLong => Built::TooLong,
         Measured::Sizes { count, sum } => {
@@ -69,7 +76,18 @@ fn finish(
                 return Built::NoRoom;
             }
             builder::write_all(
-                dict, bytes, words, order, plan, room, wi, wo, count, start, names, sorted,
+                dict,
+                bytes,
+                words,
+                order,
+                plan,
+                room,
+                wi,
+                wo,
+                count,
+                start,
+                names,
+                sorted,
             );
             Built::Built {
                 count,
@@ -118,13 +136,29 @@ fn with_names(
     requires { ⌜ Over (now dict) names sorted × Entries (now dict) (now words) × (most ≡ largest (now words) (pairs (now words))) ⌝ }
     ensures { λ r. ⌜ Left (doubleChecks (pairName (now (dict .entry)) (now (words .entry))) (pairs (now (words .entry))) orElse rangeChecks (now (bytes .entry)) (now (words .entry)) orElse emptyChecks (now (words .entry)) orElse sizeChecks (size (now (dict .entry)) (now (bytes .entry)) (now (words .entry))) (now (room .entry))) (now (dict .entry)) (now (bytes .entry)) (now (words .entry)) (now (room .entry)) (now (room .exit)) r ⌝ }
 {
-    let doubles = doubles::check(dict, words, order, spare, Source::Pairs {
+    let doubles = doubles::check(
+        dict,
+        words,
+        order,
+        spare,
+        Source::Pairs {
             region: names,
             sorted,
-        });
+        },
+    );
     match doubles {
         Doubles::At(k) => Built::Double(k),
-        Doubles::None(plan) => with_children(dict, bytes, words, order, plan, room, most, names, sorted),
+        Doubles::None(plan) => with_children(
+            dict,
+            bytes,
+            words,
+            order,
+            plan,
+            room,
+            most,
+            names,
+            sorted,
+        ),
     }
 }
 
@@ -149,7 +183,17 @@ pub fn write_object(
             match ids {
                 Ids::NoSuchEntry(k) => Built::NoSuchEntry(k),
                 Ids::Good(most) => {
-                    with_names(dict, bytes, words, order, spare, room, most, h.start, h.sorted)
+                    with_names(
+                        dict,
+                        bytes,
+                        words,
+                        order,
+                        spare,
+                        room,
+                        most,
+                        h.start,
+                        h.sorted,
+                    )
                 }
             }
         }
