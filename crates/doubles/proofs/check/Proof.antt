@@ -21,15 +21,18 @@ check-spec =
     (λ c. let p = rw (c .before .before .before .plan .given .1) at (c .before .before .before .before .before .before .before .before .before .plan-for .ensures .0) in
     let many = held-count p in
     record { passes = good _ _ .1 (as-many _ 0 _ (many ∙ c .if1 .taken ∙ c .before .count-of .ensures)); planned = p })  -- returns
-    (λ c κs. let e = rw (c .before .before .before .before .before .plan .given .1) at (c .before .before .before .before .before .before .before .before .before .before .before .plan-for .ensures) in
+    (λ c κs. let e = rw (c .before .before .before .before .before .plan .given .1) at
+    (c .before .before .before .before .before .before .before .before .before .before .before .plan-for .ensures) in
     let a = c .before .before .before .before .before .before .before .before .before .before .before .before .before .before .before .before .before .before .args in
     let n = nameOf (a .run .now) (a .words .now) (a .kind) in
     let many = held-count (e .0) in
     let f = c .before .before .before .count-of .ensures in
-    (c .before .before .before .before .before .before .before .before .before .before .before .before .before .before .before .before .before .before .pre, f, omega (arith, f, e .1), omega (arith, f, e .1), omega (arith, f, e .1), fewer n f many (c .before .before .if1 .left)))  -- halve-requires
+    (c .before .before .before .before .before .before .before .before .before .before .before .before .before .before .before .before .before .before .pre, f, omega (arith, f, e .1), omega
+    (arith, f, e .1), omega (arith, f, e .1), fewer n f many (c .before .before .if1 .left)))  -- halve-requires
     (λ c. search needs)  -- enum-told
     (λ c κs. search needs)  -- search-requires
     (λ c. search needs) (λ c. search needs)  -- same-length-3
     (λ c. rw (← c .before .before .before .before .before .before .before .before .count-of .ensures) (bad _ _ _ .1 (c .before .before .before .before .halve .ensures)))  -- returns-2
     (λ c. search needs) (λ c. search needs)  -- same-length-5
-    (λ c. let a = c .before .before .before .before .before .before .before .before .before .before .before .before .before .before .args in searched (a .run .now) (a .words .now) (a .kind) (c .before .before .before .before .before .before .before .plan-for .last .1 .1 .0) (c .search .result) (c .search .ensures)))  -- returns-3
+    (λ c. let a = c .before .before .before .before .before .before .before .before .before .before .before .before .before .before .args in searched (a .run .now) (a .words .now) (a .kind)
+    (c .before .before .before .before .before .before .before .plan-for .last .1 .1 .0) (c .search .result) (c .search .ensures)))  -- returns-3

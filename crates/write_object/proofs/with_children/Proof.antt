@@ -17,4 +17,5 @@ with-children-spec =
     (λ c. left-first _ _ (rw (c .before .children .given .1) at (c .before .before .before .check-children .ensures)) refl)  -- returns
     (λ c. let e = rw (c .before .children2 .given .1) at (c .before .before .before .check-children .ensures) in left-next _ (e .0) (left-first _ _ (e .1) refl))  -- returns-2
     (λ c. c .before .before .finish .kept .1 .1 .1 .1 .1 .0)  -- same-length
-    (λ c. let e = rw (c .before .before .before .before .enum-told .given .1) at (c .before .before .before .before .before .before .check-children .ensures) in left-next _ (e .0) (left-next _ (e .1) (c .before .before .finish .ensures))))  -- returns-3
+    (λ c. let e = rw (c .before .before .before .before .enum-told .given .1) at (c .before .before .before .before .before .before .check-children .ensures) in left-next _ (e .0)
+    (left-next _ (e .1) (c .before .before .finish .ensures))))  -- returns-3

@@ -17,5 +17,6 @@ with-names-spec =
     (λ c. let e = rw (c .before .doubles .given .1) at (c .before .before .before .before .before .before .before .check .ensures) in
     left-first _ _ (sym (doubles-are _ _ _ _) ∙ e) refl)  -- returns
     (λ c. search needs) (λ c. search needs) (λ c. search needs)  -- same-length-3
-    (λ c. let n = rw (c .before .before .before .before .before .before .doubles2 .given .1) at (c .before .before .before .before .before .before .before .before .before .before .before .before .check .ensures) in
+    (λ c. let n = rw (c .before .before .before .before .before .before .doubles2 .given .1) at
+    (c .before .before .before .before .before .before .before .before .before .before .before .before .check .ensures) in
     left-next _ (sym (doubles-are _ _ _ _) ∙ n .passes) (c .before .before .with-children .ensures)))  -- returns-2
