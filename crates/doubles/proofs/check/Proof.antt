@@ -26,9 +26,15 @@ check-spec =
     let a = c .before .before .before .before .before .before .before .before .before .before .before .before .before .before .before .before .before .before .args in
     let n = nameOf (a .run .now) (a .words .now) (a .kind) in
     let many = held-count (e .0) in
-    let f = c .before .before .before .count-of .ensures in
-    (c .before .before .before .before .before .before .before .before .before .before .before .before .before .before .before .before .before .before .pre, f, omega (arith, f, e .1), omega
-    (arith, f, e .1), omega (arith, f, e .1), fewer n f many (c .before .before .if1 .left)))  -- halve-requires
+    let f = c .before .before .before .count-of .ensures in (
+      c .before .before .before .before .before .before .before .before .before .before .before .before .before .before .before .before .before .before .pre,
+      f,
+      omega (arith, f, e .1),
+      omega
+          (arith, f, e .1),
+      omega (arith, f, e .1),
+      fewer n f many (c .before .before .if1 .left),
+    ))  -- halve-requires
     (λ c. search needs)  -- enum-told
     (λ c κs. search needs)  -- search-requires
     (λ c. search needs) (λ c. search needs)  -- same-length-3

@@ -30,6 +30,9 @@ is-seen-spec =
     (λ c. search needs)  -- enum-told-3
     (λ c. omega arith)  -- add-i-2
     (λ c. omega arith)  -- loop-less-2
-    (λ c. (omega arith, unlike-more _ _ _ (c .before .before .before .before .loop .inv .1) (not-greater _ _ (sym (c .before .before .compare .ensures)
-    ∙ c .enum-told3 .given .1))))  -- loop-again-2
+    (λ c. (
+      omega arith,
+      unlike-more _ _ _ (c .before .before .before .before .loop .inv .1) (not-greater _ _ (sym (c .before .before .compare .ensures)
+          ∙ c .enum-told3 .given .1)),
+    ))  -- loop-again-2
     (λ c. λ w. c .before .loop .inv .1 (w .number) (omega (arith, w .high)) (w .name-is)))  -- returns-2

@@ -30,7 +30,10 @@ check-children-spec =
     (λ c. search needs)  -- enum-told-3
     (λ c. omega arith)  -- add-k-2
     (λ c. omega arith)  -- loop-less-2
-    (λ c. let j = rw (c .enum-told3 .given .1) at (c .before .before .judge .ensures) in (omega arith, good-turn (c .before .before .before .before .loop .inv .1) (omega arith) (j .0)
-    (j .1)))  -- loop-again-2
+    (λ c. let j = rw (c .enum-told3 .given .1) at (c .before .before .judge .ensures) in (
+      omega arith,
+      good-turn (c .before .before .before .before .loop .inv .1) (omega arith) (j .0)
+          (j .1),
+    ))  -- loop-again-2
     (λ c. let w = c .before .before .loop .inv .1 in (ranges-passed w (omega arith), empty-stops w (omega arith) (omega arith)))  -- returns-2
     (λ c. let w = c .before .before .loop .inv .1 in (ranges-passed w (omega arith), empties-passed w (omega arith) (omega arith))))  -- returns-3

@@ -14,16 +14,31 @@ finish-spec =
     (λ c κs. let s = c .before .before .before .before in (lent-names _ _ (s .pre .0), s .pre .1))  -- measure-requires
     (λ c. search needs) (λ c. search needs)  -- enum-told
     (λ c κs. search needs)  -- width-for-requires
-    (λ c. let s = rw (c .before .before .sizes .given .1, items-names _ _) at (c .before .before .before .before .measure .ensures) in omega (arith, sums-small s
-    (c .width-for .ensures)))  -- add-region
-    (λ c. let s = rw (c .before .before .sizes .given .1, items-names _ _) at (c .before .before .before .before .measure .ensures) in omega (arith, sums-small s
-    (c .width-for .ensures)))  -- add-region-2
-    (λ c. let s = rw (c .before .before .sizes .given .1, items-names _ _) at (c .before .before .before .before .measure .ensures) in omega (arith, sums-small s
-    (c .width-for .ensures)))  -- mul-region
-    (λ c. let s = rw (c .before .before .sizes .given .1, items-names _ _) at (c .before .before .before .before .measure .ensures) in omega (arith, sums-small s
-    (c .width-for .ensures)))  -- add-region-3
-    (λ c. let s = rw (c .before .before .sizes .given .1, items-names _ _) at (c .before .before .before .before .measure .ensures) in omega (arith, sums-small s
-    (c .width-for .ensures)))  -- add-length
+    (λ c. let s = rw (c .before .before .sizes .given .1, items-names _ _) at (c .before .before .before .before .measure .ensures) in omega (
+      arith,
+      sums-small s
+          (c .width-for .ensures),
+    ))  -- add-region
+    (λ c. let s = rw (c .before .before .sizes .given .1, items-names _ _) at (c .before .before .before .before .measure .ensures) in omega (
+      arith,
+      sums-small s
+          (c .width-for .ensures),
+    ))  -- add-region-2
+    (λ c. let s = rw (c .before .before .sizes .given .1, items-names _ _) at (c .before .before .before .before .measure .ensures) in omega (
+      arith,
+      sums-small s
+          (c .width-for .ensures),
+    ))  -- mul-region
+    (λ c. let s = rw (c .before .before .sizes .given .1, items-names _ _) at (c .before .before .before .before .measure .ensures) in omega (
+      arith,
+      sums-small s
+          (c .width-for .ensures),
+    ))  -- add-region-3
+    (λ c. let s = rw (c .before .before .sizes .given .1, items-names _ _) at (c .before .before .before .before .measure .ensures) in omega (
+      arith,
+      sums-small s
+          (c .width-for .ensures),
+    ))  -- add-length
     (λ c. let s = rw (c .before .before .before .sizes .given .1, items-names _ _) at (c .before .before .before .before .before .measure .ensures) in
     finish-stop _ (too-long _ _ (omega (arith, length-is s (c .before .width-for .ensures)))) refl)  -- returns
     (λ c. let s = rw (c .before .before .before .before .sizes .given .1, items-names _ _) at (c .before .before .before .before .before .before .measure .ensures) in

@@ -18,8 +18,11 @@ finish-spec =
     let s = rw (c .before .before .before .sizes .given .1, items-are _ _ _ _ _) at (c .before .before .before .before .before .measure .ensures) in
     let w = widths-small _ _ _ (p .0 .distinct) s (p .2) (c .before .width-of .ensures) (c .width-of2 .ensures) in
     (w .1, w .3, w .4))  -- region-start-requires
-    (λ c. let s = rw (c .before .before .before .before .sizes .given .1, items-are _ _ _ _ _) at (c .before .before .before .before .before .before .measure .ensures) in omega (arith,
-    c .region-start .ensures, s .short))  -- add-length
+    (λ c. let s = rw (c .before .before .before .before .sizes .given .1, items-are _ _ _ _ _) at (c .before .before .before .before .before .before .measure .ensures) in omega (
+      arith,
+      c .region-start .ensures,
+      s .short,
+    ))  -- add-length
     (λ c. let p = c .before .before .before .before .before .before .before .before .before .before .before .before .before .pre in
     let s = rw (c .before .before .before .before .before .sizes .given .1, items-are _ _ _ _ _) at (c .before .before .before .before .before .before .before .measure .ensures) in
     let n = length-is _ _ _ (p .0 .distinct) s (p .2) (c .before .before .before .width-of .ensures) (c .before .before .width-of2 .ensures) (c .before .region-start .ensures .0) in
