@@ -695,6 +695,10 @@ uint32_t lichenhusk_write_dictionary(const uint8_t *run, size_t run_len,
  * such sorts find 26's place, and the same names may be compared to their ends. With
  * fewer in either, each next name is looked for among all: scratch is not written then
  * (which is tested, and not proved), and the time grows with the square of n.
+ * Times on an x86-64 processor (AMD EPYC), over a sorted dictionary, for 1,000,
+ * 100,000 and 1,000,000 fields of two bytes, in milliseconds: with scratch in no order
+ * 0.07, 12 and 195, sorted 0.04, 4.7 and 52, reversed 0.06, 4.8 and 51; without scratch
+ * in no order 12, and by the square, not run, some 124,000 and 12,400,000.
  *
  * With the example's dictionary, this prints "2 fields, 10 bytes":
  *
