@@ -201,8 +201,8 @@ enum lichenhusk_code {
     LICHENHUSK_OBJECT_SHORT = 23,
     /* The object's count or last offset asks for a place above 4,294,967,295. */
     LICHENHUSK_OBJECT_OVERFLOW = 24,
-    /* A field's id names no entry of the dictionary, or a pair's does. The place: the
-     * field, or the pair. */
+    /* The id of a field, or of a pair to be written, names no entry of the
+     * dictionary. The place: the field, or the pair. */
     LICHENHUSK_OBJECT_ID = 25,
     /* A field's name is not above the name of the field before. The place: the
      * field. Of an object to be written: a pair has the name of an earlier one,
@@ -691,9 +691,10 @@ uint32_t lichenhusk_write_dictionary(const uint8_t *run, size_t run_len,
  * before; what they hold afterwards is not said, under a refusal neither. With a word
  * for each pair, pairs_len / 3, or more in both, the pairs are sorted there: the time
  * grows with the dictionary, with the object, and as that of sorting, with n log n
- * for n pairs, whatever order they come in. With fewer in either, each next name is
- * looked for among all: scratch is not written then (which is tested, and not
- * proved), and the time grows with the square of n.
+ * for n pairs, whatever order they come in. Where a name comes again, some log n more
+ * such sorts find 26's place, and the same names may be compared to their ends. With
+ * fewer in either, each next name is looked for among all: scratch is not written then
+ * (which is tested, and not proved), and the time grows with the square of n.
  *
  * With the example's dictionary, this prints "2 fields, 10 bytes":
  *

@@ -1,7 +1,7 @@
 -- What the writer of an object's bytes goes by: the walk over the pairs, the ids a turn, and all of it. Assumes nothing.
 use lib.ListN.{drop-of-length-le}
 use lib.Seq.{length-sets, drop-cons}
-use Rattle.rules.proofs.Prelude.{_≡_, refl, sym, ap, _∙_, true, false, cond, List, [], _∷_, _++_, ℕ, _+_, _-_, _*_, _≤_, _<_, add-one, decLt, arith}
+use Rattle.rules.proofs.Prelude.{_≡_, refl, sym, ap, _∙_, Bool, true, false, cond, List, [], _∷_, _++_, ℕ, _+_, _-_, _*_, _≤_, _<_, add-one, decLt, arith}
 use Rattle.rules.proofs.Prelude.{mul-le-mul-right, lt-ltb, le-ltb, length, drop, getD, set, sets, length-append}
 use Rattle.width.specs.Width.{bytesOf}
 use Rattle.width.proofs.Laws.{bytes-length}
@@ -63,27 +63,27 @@ module _ (wi wo n : ℕ) where
 
 -- PAIRS as a source of names
 
-module _ (d words : List ℕ) (names : ℕ) where
-  pub list-is : pick.listOf d words (source.Pairs names) ≡ collect (pairName d words) 0 (pairs words)
+module _ (d words : List ℕ) (names : ℕ) (sorts : Bool) where
+  pub list-is : pick.listOf d words (source.Pairs names sorts) ≡ collect (pairName d words) 0 (pairs words)
   unfolding pick.listOf nameOf countOf pairName
   list-is = refl
 
-  pub items-are : (bytes : List ℕ) → itemsOf d words bytes (source.Pairs names) ≡ children d bytes words
+  pub items-are : (bytes : List ℕ) → itemsOf d words bytes (source.Pairs names sorts) ≡ children d bytes words
   unfolding itemsOf numbersOf pick.listOf nameOf countOf itemOf pairName children childrenOf fields
   items-are bytes = refl
 
-  module _ {order : List ℕ} {plan : Plan} (r : Ready d words order plan names) where
-    pub sound : Sound d words (source.Pairs names)
+  module _ {order : List ℕ} {plan : Plan} (r : Ready d words order plan names sorts) where
+    pub sound : Sound d words (source.Pairs names sorts)
     unfolding Sound
-    sound = (r .over, r .starts, r .entries)
+    sound = (r .over, r .entries)
 
-    pub lent-pairs : (bytes : List ℕ) → GoodRanges bytes words → Lent d words bytes (source.Pairs names)
+    pub lent-pairs : (bytes : List ℕ) → GoodRanges bytes words → Lent d words bytes (source.Pairs names sorts)
     unfolding Ranged nameOf countOf pairName
     lent-pairs bytes g =
-        record { sound = sound; ranged = g; steady = λ i j p q e. ap (itemOf bytes words (source.Pairs names)) (one-pair d words (r .distinct) i j p q e) }
+        record { sound = sound; ranged = g; steady = λ i j p q e. ap (itemOf bytes words (source.Pairs names sorts)) (one-pair d words (r .distinct) i j p q e) }
 
     -- the pair that has name j is field j, and its id is id j
-    pub id-is : (j k : ℕ) → pick.Stands d words (source.Pairs names) j k
+    pub id-is : (j k : ℕ) → pick.Stands d words (source.Pairs names sorts) j k
         → (k < pairs words) × (j < length (idsOf words (fields d words))) × (id words k ≡ getD (idsOf words (fields d words)) j 0) × (j < pairs words)
     unfolding nameOf countOf pick.listOf pairName
     id-is j k s =
@@ -92,7 +92,7 @@ module _ (d words : List ℕ) (names : ℕ) where
         let id-there = ap (id words) same ∙ sym (ids-at words (fields d words) j there) in
         (s .known, omega (arith, there, ids-count words (fields d words)), id-there, omega (arith, there, fields-count d words (r .distinct)))
 
-  pub ids-done : (j : ℕ) → j ≡ length (pick.listOf d words (source.Pairs names)) → j ≡ length (idsOf words (fields d words))
+  pub ids-done : (j : ℕ) → j ≡ length (pick.listOf d words (source.Pairs names sorts)) → j ≡ length (idsOf words (fields d words))
   unfolding nameOf countOf pick.listOf pairName
   ids-done j e = e ∙ sym (fields-many d words) ∙ sym (ids-count words (fields d words))
 

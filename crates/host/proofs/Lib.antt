@@ -11,5 +11,6 @@ pub mod Cut
 pub mod Trees
 pub mod Paths
 pub mod Writes
+pub mod WritesObject
 pub mod Raised
 pub mod Lengths

@@ -38,6 +38,8 @@ use Rattle.path.specs.Meaning.{Says}
 use Rattle.fill.specs.Bytes as fill
 use Rattle.fill.specs.Steps.{listOf}
 use Rattle.write.specs.Meaning as write
+use Rattle.builder.specs.Bytes as builder
+use Rattle.write_object.specs.Meaning as write-object
 use Rattle.strip.specs.Shapes.{refusalWords, wordsOf, lookupShape, stripBytes}
 
 -- WHAT CODE, NUMBER, ID, START, END AND PLACE SAY, call by call
@@ -113,6 +115,11 @@ pub data WriteSays (run ends room : List ℕ) : List ℕ → Type 0 where
   written : {n b : ℕ} → write.Accepted run ends room n b → WriteSays run ends room (0 ∷ n ∷ 0 ∷ 0 ∷ b ∷ 0 ∷ [])
   refused : {c p : ℕ} → write.Refusal run ends room c p → WriteSays run ends room (refusalWords c p)
 
+-- of an object that is written: so many fields, the region from v on, in so many bytes; or what is refused
+pub data WriteObjectSays (d bytes pairs room : List ℕ) : List ℕ → Type 0 where
+  written : {n v b : ℕ} → write-object.Accepted d bytes pairs room n v b → WriteObjectSays d bytes pairs room (0 ∷ n ∷ 0 ∷ v ∷ b ∷ 0 ∷ [])
+  refused : {c p : ℕ} → write-object.Refusal d bytes pairs room c p → WriteObjectSays d bytes pairs room (refusalWords c p)
+
 -- WHAT A CALL TELLS
 
 -- word k of a strip, as the host reads it
@@ -165,4 +172,9 @@ pub record EmptyTells (room : List ℕ) (code : ℕ) (after : List ℕ) : Type 0
 -- the room lent for a dictionary: with 0 it is at the front and the bytes after it are as they were; with any other code all are
 pub record FillsRoom (run ends room : List ℕ) (code : ℕ) (after roomAfter : List ℕ) : Type 0 where
   pub filled : code ≡ 0 → roomAfter ≡ fill.dictionary (listOf run ends) ++ drop (word after 4) room
+  pub kept : (code ≡ 0 → ⊥) → roomAfter ≡ room
+
+-- and the room lent for an object
+pub record FillsObject (d bytes pairs room : List ℕ) (code : ℕ) (after roomAfter : List ℕ) : Type 0 where
+  pub filled : code ≡ 0 → roomAfter ≡ builder.object d bytes pairs ++ drop (word after 4) room
   pub kept : (code ≡ 0 → ⊥) → roomAfter ≡ room

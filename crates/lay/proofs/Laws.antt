@@ -3,7 +3,7 @@ use Prim.Native.Nat.{max}
 use native.Mathlib.Nat.{mul-suc}
 use lib.ListN.{drop-of-length-le}
 use lib.Seq.{length-sets, drop-cons, take-length}
-use Rattle.rules.proofs.Prelude.{_≡_, refl, sym, ap, _∙_, Bool, true, false, cond, List, [], _∷_, _++_, ℕ, suc, _+_, _-_, _*_, _≤_, _<_, add-one, arith}
+use Rattle.rules.proofs.Prelude.{_≡_, refl, sym, ap, _∙_, Bool, true, false, cond, List, [], _∷_, _++_, ℕ, zero, suc, _+_, _-_, _*_, _≤_, _<_, add-one, arith}
 use Rattle.rules.proofs.Prelude.{ltb, lt-ltb, le-ltb, length, take, drop, getD, sets, length-append}
 use mathlib.Core.List.{append-nil}
 use Rattle.part.proofs.Laws.{part-length}
@@ -100,6 +100,14 @@ offsets-count o (x ∷ xs) = omega (arith, offsets-count (o + length x) xs)
 
 pub offsets-length : (w o : ℕ) (xs : List (List ℕ)) → length (numbers w (offsets o xs)) ≡ w * (length xs + 1)
 offsets-length w o xs = numbers-length w (offsets o xs) ∙ ap (λ (n : ℕ). w * n) (offsets-count o xs)
+
+-- offset k is the length of the items before it
+pub offsets-at : (o k : ℕ) (xs : List (List ℕ)) → k ≤ length xs → getD (offsets o xs) k 0 ≡ o + total (take k xs)
+unfolding offsets total
+offsets-at o zero [] p = omega arith
+offsets-at o zero (x ∷ xs) p = omega arith
+offsets-at o (suc k) [] p = absurd (omega arith)
+offsets-at o (suc k) (x ∷ xs) p = offsets-at (o + length x) k xs (omega arith) ∙ omega arith
 
 pub joined-length : (xs : List (List ℕ)) → length (joined xs) ≡ total xs
 unfolding joined total

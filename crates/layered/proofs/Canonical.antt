@@ -1,10 +1,9 @@
 -- Pairs in another order, with the children elsewhere in other lent bytes, give the same bytes, and where both are good the same answer and room
 -- (document 02, k); no pairs give 02 00 00. Assumes nothing.
-use Rattle.rules.proofs.Prelude.{_≡_, refl, sym, ap, ap₂, _∙_, List, [], _∷_, ℕ, _≤_, _<_, inl, inr, arith, length, pass, each-pass, _orElse_, _&_}
+use Rattle.rules.proofs.Prelude.{_≡_, refl, sym, ap, ap₂, _∙_, List, [], _∷_, ℕ, _≤_, _<_, inl, inr, arith, length}
 use Rattle.width.specs.Width.{bytesOf}
 use Rattle.put.specs.Numbers.{numbers}
 use Rattle.dictionary.specs.Dictionary as dictionary
-use Rattle.metadata.proofs.Accepts.{all-pass}
 use Rattle.sets.specs.Sets.{In, Distinct, Numbered, collect, total}
 use Rattle.sets.proofs.Laws.{only-one, collect-increasing, in-collect, collect-in}
 use Rattle.sets.proofs.Distinct.{all-new}
@@ -13,12 +12,12 @@ use Rattle.sort.specs.Steps.{labels}
 use Rattle.lay.specs.Items.{numberOf, numbersFor}
 use Rattle.lay.specs.Bytes.{widthOf, offsets, joined}
 use Rattle.lay.proofs.Items.{number-is}
-use Rattle.pairs.specs.Checks.{pairName, largest, idRules, idChecks, rangeRules, rangeChecks, emptyRules, emptyChecks}
-use Rattle.doubles.proofs.Means.{good}
+use Rattle.pairs.specs.Checks.{pairName, largest}
 use Rattle.builder.specs.Bytes.{fields, idsOf, childrenOf, countWidth, lead, layout, idWidth, offsetWidth, children, object, start, size}
 use Rattle.builder.proofs.Fields.{one-pair}
-use Rattle.write_object.specs.Writing.{sizeChecks, checks, written, roomAfter}
+use Rattle.write_object.specs.Writing.{checks, written, roomAfter}
 use Rattle.write_object.specs.Meaning.{GoodPairs}
+use Rattle.write_object.proofs.Refuses.{pairs-pass}
 use Rattle.layered.specs.Fields.{Matched, SamePairs}
 use Rattle.layered.proofs.Smallest.{largest-above, largest-least}
 
@@ -110,26 +109,7 @@ module _ (d bytes words bytes′ words′ : List ℕ) (same : SamePairs bytes wo
     unfolding size
     same-size = ap length same-bytes
 
--- GOOD PAIRS pass all their checks
-
-module _ {d bytes words : List ℕ} (g : GoodPairs d bytes words) where
-  ids-pass : idChecks d words ≡ pass
-  unfolding idChecks idRules
-  ids-pass = each-pass (idRules d words) (pairs words) (λ k p. g .ranged .single .known .entries k p & tt)
-
-  ranges-pass : rangeChecks bytes words ≡ pass
-  unfolding rangeChecks rangeRules
-  ranges-pass = each-pass (rangeRules bytes words) (pairs words) (λ k p. (g .ranged .ranges k p .rises, g .ranged .ranges k p .inside) & tt)
-
-  some-pass : emptyChecks words ≡ pass
-  unfolding emptyChecks emptyRules
-  some-pass = each-pass (emptyRules words) (pairs words) (λ k p. g .some k p & tt)
-
-  good-pass : (room : List ℕ) → checks d bytes words room ≡ sizeChecks (size d bytes words) room
-  unfolding checks _orElse_
-  good-pass room =
-      let single = g .ranged .single in
-      rw (all-pass d _ _ (single .known .over .accepted), ids-pass, good (pairName d words) (pairs words) .1 (single .distinct), ranges-pass, some-pass)
+-- GOOD PAIRS pass all their checks, so the answers are the same
 
 module _ (d bytes words bytes′ words′ : List ℕ) (same : SamePairs bytes words bytes′ words′)
     (g : GoodPairs d bytes words) (g′ : GoodPairs d bytes′ words′) (room : List ℕ) where
@@ -137,7 +117,7 @@ module _ (d bytes words bytes′ words′ : List ℕ) (same : SamePairs bytes wo
   alike law = law same (g .ranged .single .distinct) (g′ .ranged .single .distinct)
 
   same-checks : checks d bytes words room ≡ checks d bytes′ words′ room
-  same-checks = good-pass g room ∙ rw (alike (same-size d bytes words bytes′ words′)) (sym (good-pass g′ room))
+  same-checks = pairs-pass d bytes words room g ∙ rw (alike (same-size d bytes words bytes′ words′)) (sym (pairs-pass d bytes′ words′ room g′))
 
   pub same-answer : written d bytes words room ≡ written d bytes′ words′ room
   unfolding written

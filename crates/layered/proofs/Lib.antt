@@ -5,3 +5,4 @@ pub mod AnyOrder
 pub mod Readings
 pub mod ReadBack
 pub mod Tree
+pub mod Says

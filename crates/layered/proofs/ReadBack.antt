@@ -4,14 +4,13 @@
 use lib.Seq.{drop-at}
 use mathlib.Core.List.{append-nil}
 use Rattle.rules.proofs.Prelude.{_≡_, refl, sym, ap, _∙_, List, [], _∷_, _++_, ℕ, suc, _+_, _-_, _≤_, _<_, arith, length, take, drop, getD, length-append, length-drop}
-use Rattle.rules.proofs.Prelude.{take-at, accept, codeOf, pass, let-through, both-pass, each-passed, passed}
+use Rattle.rules.proofs.Prelude.{take-at, accept, codeOf}
 use Rattle.part.specs.Part.{part}
 use Rattle.part.proofs.Laws.{part-length, part-append}
 use Rattle.names.specs.Search.{Rising}
 use Rattle.width.specs.Limits.{u32Max}
 use Rattle.dictionary.specs.Limits.{limit}
 use Rattle.dictionary.specs.Dictionary as dictionary
-use Rattle.metadata.proofs.Means as dictionary-means
 use Rattle.metadata.proofs.Accepts as dictionary-accepts
 use Rattle.sets.specs.Sets.{collect}
 use Rattle.sets.proofs.Laws.{collect-increasing, collect-in, in-at, rising, total-next, total-part}
@@ -19,14 +18,14 @@ use Rattle.source.specs.Pairs as source
 use Rattle.source.specs.Pairs.{pairs, child}
 use Rattle.lay.specs.Bytes.{joined}
 use Rattle.lay.proofs.Laws.{sum-all}
-use Rattle.pairs.specs.Checks.{pairName, idRules, idChecks, rangeRules, rangeChecks, emptyRules, emptyChecks}
-use Rattle.doubles.specs.Doubles as doubles
-use Rattle.doubles.proofs.Means as doubles-means
+use Rattle.pairs.specs.Checks.{pairName}
 use Rattle.builder.specs.Bytes as builder
 use Rattle.builder.specs.Bytes.{fields, children, object, size}
 use Rattle.builder.proofs.Fields.{field-is}
-use Rattle.write_object.specs.Meaning.{Known, GoodPairs, Accepted}
-use Rattle.write_object.specs.Writing.{sizeRules, sizeChecks, checks, written, roomAfter}
+use Rattle.write_object.specs.Meaning.{GoodPairs, Accepted}
+use Rattle.write_object.specs.Writing.{written, roomAfter}
+use Rattle.write_object.proofs.Refuses.{written-room}
+use Rattle.write_object.proofs.Refuses.{accepts as accepted-when}
 use Rattle.layer.specs.Object.{count, id, offset, start, end, fieldName, verdict}
 use Rattle.layer.specs.Meaning.{Sized, Counted, Placed, GoodName, Layer}
 use Rattle.layer.proofs.Laws.{ids-before, offsets-before, count-below, start-before}
@@ -206,50 +205,14 @@ pub record Holds (d bytes words room after : List ℕ) (f v n : ℕ) : Type 0 wh
   pub whole : length room ≤ limit → ReadBack d bytes words d after
 
 module _ (d bytes words room : List ℕ) where
-  module _ {f v n : ℕ} (w : written d bytes words room ≡ accept (f ∷ v ∷ n ∷ [])) where
-    through : (checks d bytes words room ≡ pass) × (accept (pairs words ∷ builder.start d bytes words ∷ size d bytes words ∷ []) ≡ accept (f ∷ v ∷ n ∷ []))
-    unfolding written
-    through = let-through (checks d bytes words room) (accept (pairs words ∷ builder.start d bytes words ∷ size d bytes words ∷ [])) w
-
-    -- what all checks passing says
-    accepted-by : Accepted d bytes words room f v n
-    unfolding checks idChecks idRules rangeChecks rangeRules emptyChecks emptyRules sizeChecks
-    accepted-by =
-        let m = pairs words in
-        let over = both-pass (dictionary.checks d) _ (through .0) in
-        let ids = both-pass (idChecks d words) _ (over .1) in
-        let names = both-pass (doubles.checks (pairName d words) m) _ (ids .1) in
-        let ranges = both-pass (rangeChecks bytes words) _ (names .1) in
-        let some = both-pass (emptyChecks words) _ (ranges .1) in
-        let sizes = passed (sizeRules (size d bytes words) (length room)) (some .1) in
-        let known : Known d words = record { over = record { accepted = dictionary-means.good d (over .0) }; entries = λ k p. each-passed (idRules d words) m (ids .0) k p .0 } in
-        record {
-          good = record {
-            ranged = record {
-              single = record { known = known; distinct = doubles-means.good (pairName d words) m .0 (names .0) };
-              ranges = λ k p. let x = each-passed (rangeRules bytes words) m (ranges .0) k p .0 in record { rises = x .0; inside = x .1 };
-            };
-            some = λ k p. each-passed (emptyRules words) m (some .0) k p .0;
-          };
-          within = sizes .0;
-          fits = sizes .1 .0;
-          counts = cc (through .1);
-          starts = cc (through .1);
-          ends = cc (through .1);
-        }
-
-    room-is : roomAfter d bytes words room ≡ object d bytes words ++ drop (size d bytes words) room
-    unfolding roomAfter
-    room-is = rw (through .0)
-
   -- THE THEOREM
   pub holds : (f v n : ℕ) → written d bytes words room ≡ accept (f ∷ v ∷ n ∷ []) → Holds d bytes words room (roomAfter d bytes words room) f v n
   unfolding size
   holds f v n w =
-      let a = accepted-by w in
+      let a = accepted-when d bytes words room f v n .0 w in
       let o = object d bytes words in
       let left = drop (length o) room in
-      let is : roomAfter d bytes words room ≡ o ++ left = room-is w in
+      let is : roomAfter d bytes words room ≡ o ++ left = written-room d bytes words room a in
       let at : length o ≡ n = sym (a .ends) in
       let front : take n (roomAfter d bytes words room) ≡ o = rw is (take-at o left n at) in
       let long : length (o ++ left) ≡ length room = simp (length-append, length-drop) (omega (arith, a .fits)) in

@@ -17,13 +17,15 @@ use Rattle.sets.proofs.Distinct.{all-new}
 use Rattle.source.specs.Pairs as source
 use Rattle.source.specs.Pairs.{pairs, child}
 use Rattle.lay.specs.Bytes.{offsets, joined}
-use Rattle.lay.proofs.Laws.{offsets-count, offsets-length, joined-length}
+use Rattle.lay.proofs.Laws.{offsets-count, offsets-length, offsets-at, joined-length}
 use Rattle.write.proofs.Readings.{joined-from}
 use Rattle.pairs.specs.Checks.{pairName}
 use Rattle.builder.specs.Bytes as builder
 use Rattle.builder.specs.Bytes.{fields, idsOf, children, lead, startFor, layout, object, size}
 use Rattle.builder.proofs.Fields.{ids-count, ids-at, children-count, children-at, field-at, fields-count}
+use Rattle.builder.proofs.Laws.{layout-length}
 use Rattle.write_object.specs.Meaning.{GoodPairs}
+use Rattle.write_object.proofs.Laws.{size-is}
 use Rattle.layer.specs.Object.{basicType, offsetWidth, idWidth, countWidth, count, idsStart, id, offsetsStart, offset, start, end, fieldName}
 use Rattle.layered.proofs.Smallest.{smallest-ids, smallest-offsets}
 
@@ -46,14 +48,6 @@ count-held n h = go (ltb 0xFF n) refl
     go : (long : Bool) → ltb 0xFF n ≡ long → n < 256 ^ cond long 4 1
     go true e = h
     go false e = omega (arith, ltb-false 0xFF n e)
-
--- offset k is the length of the children before it
-offsets-at : (o k : ℕ) (xs : List (List ℕ)) → k ≤ length xs → getD (offsets o xs) k 0 ≡ o + total (take k xs)
-unfolding offsets total
-offsets-at o zero [] p = omega arith
-offsets-at o zero (x ∷ xs) p = omega arith
-offsets-at o (suc k) [] p = absurd (omega arith)
-offsets-at o (suc k) (x ∷ xs) p = offsets-at (o + length x) k xs (omega arith) ∙ omega arith
 
 -- THE PARTS of the bytes
 module _ (wi wo : ℕ) (ids : List ℕ) (xs : List (List ℕ)) where
@@ -84,11 +78,6 @@ module _ (wi wo : ℕ) (ids : List ℕ) (xs : List (List ℕ)) where
         let os = numbers wo (offsets 0 xs) in
         let place : before + wo * (length ids + 1) + k ≡ before + (length os + k) = omega (arith, offsets-long) in
         rw place (from-offsets (length os + k) ∙ drop-append-add os (joined xs) k)
-
-    layout-length : length (layout wi wo ids xs) ≡ startFor wi wo (length ids) + total xs
-    unfolding layout startFor
-    layout-length =
-        simp length-append (omega (arith, bytes-length (builder.countWidth (length ids)) (length ids), numbers-length wi ids, offsets-long, joined-length xs))
 
 module _ {wi wo : ℕ} {ids : List ℕ} {xs : List (List ℕ)} (h : Held wi wo ids xs) where
   -- THE FIRST BYTE says what it was made of, whether the count is long or not
@@ -210,18 +199,13 @@ module _ (d bytes words : List ℕ) (good : GoodPairs d bytes words) where
   unfolding children
   field-child k p = children-at bytes words (fields d words) k (omega (arith, p, fields-many))
 
-  -- how long the object is
-  size-is : size d bytes words ≡ builder.start d bytes words + total (children d bytes words)
-  unfolding size object builder.start
-  size-is = layout-length _ _ _ _ (children-many ∙ sym ids-many) ∙ rw ids-many
-
   module _ (fits : size d bytes words ≤ limit) where
     -- so there are few fields
     few : pairs words < 4294967296
     unfolding builder.start startFor limit
     few =
         let w = builder.offsetWidth (children d bytes words) in
-        omega (arith, fits, size-is, mul-le-mul-right {m = 1} {n = w} (pairs words + 1) (smallest-offsets d bytes words fits .some))
+        omega (arith, fits, size-is d bytes words (good .ranged .single .distinct), mul-le-mul-right {m = 1} {n = w} (pairs words + 1) (smallest-offsets d bytes words fits .some))
 
     held : Held (builder.idWidth words) (builder.offsetWidth (children d bytes words)) (idsOf words (fields d words)) (children d bytes words)
     held =

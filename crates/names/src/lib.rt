@@ -14,8 +14,8 @@ pub enum Order {
     Greater,
 }
 
-// Of two numbers: words, or lengths.
-fn order_of(m: usize, n: usize) -> Order
+// Of two numbers: words, or lengths, or the numbers of names that are in order.
+pub fn order_of(m: usize, n: usize) -> Order
     ensures { λ r. ⌜ r ≡ orderOf m n ⌝ }
 {
     if m < n {

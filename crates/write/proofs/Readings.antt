@@ -13,17 +13,9 @@ use Rattle.sets.specs.Sets.{total}
 use Rattle.sets.proofs.Laws.{total-part}
 use Rattle.lay.specs.Bytes.{offsets, joined}
 use Rattle.fill.specs.Bytes.{lead, layout}
-use Rattle.lay.proofs.Laws.{offsets-count, offsets-length, joined-length}
+use Rattle.lay.proofs.Laws.{offsets-count, offsets-length, offsets-at, joined-length}
 use Rattle.fill.proofs.Laws.{layout-length}
 use Rattle.write.proofs.Smallest.{Smallest}
-
--- OFFSET k is the length of the names before it
-offsets-at : (o k : ℕ) (xs : List (List ℕ)) → k ≤ length xs → getD (offsets o xs) k 0 ≡ o + total (take k xs)
-unfolding offsets total
-offsets-at o zero [] p = omega arith
-offsets-at o zero (x ∷ xs) p = omega arith
-offsets-at o (suc k) [] p = absurd (omega arith)
-offsets-at o (suc k) (x ∷ xs) p = offsets-at (o + length x) k xs (omega arith) ∙ omega arith
 
 -- NAME k in the names one after another
 joined-at : (xs : List (List ℕ)) (k : ℕ) → k < length xs → part (joined xs) (total (take k xs)) (total (take (suc k) xs)) ≡ getD xs k []

@@ -1,12 +1,11 @@
 -- What the writer's steps go by: the sizes, the answers, the room. Assumes nothing.
 use Prim.Native.Nat.{max}
-use Rattle.rules.proofs.Prelude.{_≡_, refl, sym, ap, ap₂, _∙_, List, [], _∷_, _++_, ℕ, _+_, _*_, _≤_, _<_, arith, length, drop, sets, sets-eq, _&_}
+use Rattle.rules.proofs.Prelude.{_≡_, refl, sym, ap, ap₂, _∙_, Bool, List, [], _∷_, _++_, ℕ, _+_, _*_, _≤_, _<_, arith, length, drop, sets, sets-eq, _&_}
 use Rattle.rules.proofs.Prelude.{accept, refuse, Found, pass, stop, _orElse_, _otherwise_, first-at, first-pass, refused, answered, stops, goes, unlessRefused}
 use Rattle.dictionary.specs.Limits.{limit}
-use Rattle.dictionary.specs.Dictionary as dictionary
 use Rattle.sets.specs.Sets.{Distinct, total}
 use Rattle.source.specs.declared.Source.the-variants as source
-use Rattle.source.specs.Names.{nameOf, countOf, Entries, Sound}
+use Rattle.source.specs.Names.{nameOf, countOf, Entries, Over, Sound}
 use Rattle.pick.specs.declared.Plan.{Plan}
 use Rattle.doubles.specs.Doubles as doubles
 use Rattle.doubles.specs.Steps.{None}
@@ -123,23 +122,30 @@ module _ {d bytes words room : List ℕ} where
 
 -- PAIRS as a source of names, over a dictionary that was checked
 
-module _ (d words : List ℕ) (names : ℕ) where
-  pub doubles-are : doubles.checks (nameOf d words (source.Pairs names)) (countOf words (source.Pairs names)) ≡ doubles.checks (pairName d words) (pairs words)
+module _ (d words : List ℕ) (names : ℕ) (sorts : Bool) where
+  pub doubles-are : doubles.checks (nameOf d words (source.Pairs names sorts)) (countOf words (source.Pairs names sorts)) ≡ doubles.checks (pairName d words) (pairs words)
   unfolding nameOf countOf pairName
   doubles-are = refl
 
-  module _ (over : dictionary.checks d ≡ pass) (starts : names ≡ dictionary.start d) (entries : Entries d words) where
-    pub sound-pairs : Sound d words (source.Pairs names)
+  module _ (over : Over d names sorts) (entries : Entries d words) where
+    pub sound-pairs : Sound d words (source.Pairs names sorts)
     unfolding Sound
-    sound-pairs = (over, starts, entries)
+    sound-pairs = (over, entries)
 
-    pub ready : {order : List ℕ} {plan : Plan} → None d words (source.Pairs names) order plan → Ready d words order plan names
+    pub ready : {order : List ℕ} {plan : Plan} → None d words (source.Pairs names sorts) order plan → Ready d words order plan names sorts
     ready n =
         let alone = good (pairName d words) (pairs words) .0 (sym doubles-are ∙ n .passes) in
-        record { over = over; starts = starts; entries = entries; distinct = alone; planned = n .planned }
+        record { over = over; entries = entries; distinct = alone; planned = n .planned }
 
 -- ALL OF IT
 
 pub promised : {d bytes words room after : List ℕ} {r : Built} → Left (checks d bytes words room) d bytes words room after r → ObjectPromise d bytes words room r after
 unfolding written roomAfter
 promised l = record { answer = l .answer; leaves = l .leaves }
+
+-- fewer fields than bytes before the region, and these are no more than all
+pub size-above : (d bytes words : List ℕ) → Distinct (pairName d words) 0 (pairs words) → (pairs words < start d bytes words) × (start d bytes words ≤ size d bytes words)
+unfolding start offsetWidth
+size-above d bytes words alone =
+    let above = start-above (idWidth words) (widthOf (total (children d bytes words))) (pairs words) (width-some (total (children d bytes words))) in
+    (above, omega (arith, size-is d bytes words alone))

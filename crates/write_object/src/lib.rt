@@ -1,10 +1,8 @@
 // Writing an object layer from pairs over a dictionary (document 02, k).
 ghost use mathlib.Core.Path.{_≡_};
 ghost use Rattle.rules.specs.Rules.{_orElse_};
-ghost use Rattle.rules.specs.Rules.Found.{pass};
-ghost use Rattle.dictionary.specs.Dictionary.{checks as dictionaryChecks, start as regionOf};
 ghost use Rattle.source.specs.Pairs.{pairs};
-ghost use Rattle.source.specs.Names.{Entries, GoodRanges};
+ghost use Rattle.source.specs.Names.{Entries, Over, GoodRanges};
 ghost use Rattle.doubles.specs.Doubles.{checks as doubleChecks};
 ghost use Rattle.pairs.specs.Checks.{pairName, largest, idChecks, rangeChecks, emptyChecks};
 ghost use Rattle.builder.specs.Bytes.{size};
@@ -37,8 +35,8 @@ pub enum Built {
     },
 }
 
-// Once the pairs are known to be good: the sizes, 20, 46, and the bytes. `most` is their largest id, and the dictionary's names start at
-// `names`.
+// Once the pairs are known to be good: the sizes, 20, 46, and the bytes. `most` is their largest id; the dictionary's names start at
+// `names`, and are in order if it is sorted.
 fn finish(
     dict: &[u8],
     bytes: &[u8],
@@ -48,11 +46,22 @@ fn finish(
     room: &mut [u8],
     most: usize,
     names: usize,
+    sorted: bool,
 ) -> Built
-    requires { ⌜ Ready (now dict) (now words) (now order) plan names × GoodRanges (now bytes) (now words) × (most ≡ largest (now words) (pairs (now words))) ⌝ }
+    requires { ⌜ Ready (now dict) (now words) (now order) plan names sorted × GoodRanges (now bytes) (now words) × (most ≡ largest (now words) (pairs (now words))) ⌝ }
     ensures { λ r. ⌜ Left (sizeChecks (size (now (dict .entry)) (now (bytes .entry)) (now (words .entry))) (now (room .entry))) (now (dict .entry)) (now (bytes .entry)) (now (words .entry)) (now (room .entry)) (now (room .exit)) r ⌝ }
 {
-    let sizes = lay::measure(dict, words, bytes, order, plan, Source::Pairs(names));
+    let sizes = lay::measure(
+        dict,
+        words,
+        bytes,
+        order,
+        plan,
+        Source::Pairs {
+            region: names,
+            sorted,
+        },
+    );
     match sizes {
         Measured::TooLong => Built::TooLong,
         Measured::Sizes { count, sum } => {
@@ -67,7 +76,18 @@ fn finish(
                 return Built::NoRoom;
             }
             builder::write_all(
-                dict, bytes, words, order, plan, room, wi, wo, count, start, names,
+                dict,
+                bytes,
+                words,
+                order,
+                plan,
+                room,
+                wi,
+                wo,
+                count,
+                start,
+                names,
+                sorted,
             );
             Built::Built {
                 count,
@@ -88,15 +108,16 @@ fn with_children(
     room: &mut [u8],
     most: usize,
     names: usize,
+    sorted: bool,
 ) -> Built
-    requires { ⌜ Ready (now dict) (now words) (now order) plan names × (most ≡ largest (now words) (pairs (now words))) ⌝ }
+    requires { ⌜ Ready (now dict) (now words) (now order) plan names sorted × (most ≡ largest (now words) (pairs (now words))) ⌝ }
     ensures { λ r. ⌜ Left (rangeChecks (now (bytes .entry)) (now (words .entry)) orElse emptyChecks (now (words .entry)) orElse sizeChecks (size (now (dict .entry)) (now (bytes .entry)) (now (words .entry))) (now (room .entry))) (now (dict .entry)) (now (bytes .entry)) (now (words .entry)) (now (room .entry)) (now (room .exit)) r ⌝ }
 {
     let children = pairs::check_children(bytes, words);
     match children {
         Children::Outside(k) => Built::Outside(k),
         Children::Empty(k) => Built::EmptyChild(k),
-        Children::Good => finish(dict, bytes, words, order, plan, room, most, names),
+        Children::Good => finish(dict, bytes, words, order, plan, room, most, names, sorted),
     }
 }
 
@@ -110,14 +131,34 @@ fn with_names(
     room: &mut [u8],
     most: usize,
     names: usize,
+    sorted: bool,
 ) -> Built
-    requires { ⌜ (dictionaryChecks (now dict) ≡ pass) × (names ≡ regionOf (now dict)) × Entries (now dict) (now words) × (most ≡ largest (now words) (pairs (now words))) ⌝ }
+    requires { ⌜ Over (now dict) names sorted × Entries (now dict) (now words) × (most ≡ largest (now words) (pairs (now words))) ⌝ }
     ensures { λ r. ⌜ Left (doubleChecks (pairName (now (dict .entry)) (now (words .entry))) (pairs (now (words .entry))) orElse rangeChecks (now (bytes .entry)) (now (words .entry)) orElse emptyChecks (now (words .entry)) orElse sizeChecks (size (now (dict .entry)) (now (bytes .entry)) (now (words .entry))) (now (room .entry))) (now (dict .entry)) (now (bytes .entry)) (now (words .entry)) (now (room .entry)) (now (room .exit)) r ⌝ }
 {
-    let doubles = doubles::check(dict, words, order, spare, Source::Pairs(names));
+    let doubles = doubles::check(
+        dict,
+        words,
+        order,
+        spare,
+        Source::Pairs {
+            region: names,
+            sorted,
+        },
+    );
     match doubles {
         Doubles::At(k) => Built::Double(k),
-        Doubles::None(plan) => with_children(dict, bytes, words, order, plan, room, most, names),
+        Doubles::None(plan) => with_children(
+            dict,
+            bytes,
+            words,
+            order,
+            plan,
+            room,
+            most,
+            names,
+            sorted,
+        ),
     }
 }
 
@@ -142,7 +183,17 @@ pub fn write_object(
             match ids {
                 Ids::NoSuchEntry(k) => Built::NoSuchEntry(k),
                 Ids::Good(most) => {
-                    with_names(dict, bytes, words, order, spare, room, most, h.start)
+                    with_names(
+                        dict,
+                        bytes,
+                        words,
+                        order,
+                        spare,
+                        room,
+                        most,
+                        h.start,
+                        h.sorted,
+                    )
                 }
             }
         }

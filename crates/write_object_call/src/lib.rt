@@ -47,8 +47,6 @@ pub fn write_object(
     if strip.len() < STRIP {
         return 40;
     }
-    let words = of_built(write_object::write_object(
-        dict, bytes, pairs, order, spare, room,
-    ));
+    let words = of_built(write_object::write_object(dict, bytes, pairs, order, spare, room));
     strip::write(strip, words)
 }

@@ -156,7 +156,8 @@ impl<'d, R: Reader> Composing<'_, 'd, R> {
         Ok(room)
     }
 
-    /// A refusal that is not one of room: in none, in a little, and in as much as can be asked for.
+    /// A refusal that is not one of room: in none, in a little, and in much; in a little also without
+    /// scratch, and with a word too little of it in either row.
     fn in_any_room(&self, due: &Due) -> Compared {
         let most = match due.strip.code {
             20 => LIMIT + 1,
@@ -165,8 +166,12 @@ impl<'d, R: Reader> Composing<'_, 'd, R> {
         for bytes in [0, 2, most] {
             self.in_room(due, bytes)?;
         }
-        if self.count() <= SLOW {
-            self.with(due, 2, Scratch::of(0, 0))?;
+        let count = self.count();
+        if count <= SLOW {
+            let less = count.saturating_sub(1);
+            for (order, spare) in [(0, 0), (less, count), (count, less)] {
+                self.with(due, 2, Scratch::of(order, spare))?;
+            }
         }
         Ok(())
     }
@@ -284,8 +289,8 @@ impl<'d, R: Reader> Composing<'_, 'd, R> {
         apart
     }
 
-    /// Pairs of which one is bad: refused there, in any room and with any scratch; so are the pairs up to
-    /// it, and of those before it something else is due.
+    /// Pairs of which one is bad: refused there, with scratch and without; so are the pairs up to it, and
+    /// of those before it something else is due.
     fn bad(&self, due: &Due, names: &[&[u8]]) -> Compared {
         self.in_any_room(due)?;
         let place = due.strip.place as usize;

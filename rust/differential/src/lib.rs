@@ -4,13 +4,13 @@
 //! [`values`] of a value that is read; [`tree`] has what must agree of a whole tree, by a [`reference`]
 //! and by the Rust but for what is [`otherwise`] there; [`path`] of a path into a value, by a
 //! [`spelling`] of its text and a [`walk`], and by the Rust; [`writing`] of a dictionary that is written
-//! of the names that are [`given`], and [`composing`] of an object of [`pairs`]. [`ours`] and [`original`] are the two sides, and [`lengths`] has what
-//! the Rust tells of children's lengths; [`fixed`], [`exhaustive`], [`children`], [`extremes`],
-//! [`long_names`], [`generate`], [`large`], [`trees`], [`paths`], [`sets`], [`objects`] and [`damage`]
-//! make the inputs; [`run`] goes through them, counting in a [`tally`], and has [`shrink`] make an input that
-//! disagrees as small as it can. [`faults`] are wrong readers, some of them by [`miswriting`] and
-//! [`miscomposing`].
-//! [`replay`] writes answers of the Rust's down, to be asked again where it is not at hand.
+//! of the names that are [`given`], and [`composing`] of an object of [`pairs`]. [`ours`] and
+//! [`original`] are the two sides, and [`lengths`] has what the Rust tells of children's lengths;
+//! [`fixed`], [`exhaustive`], [`children`], [`extremes`], [`long_names`], [`generate`], [`large`],
+//! [`trees`], [`paths`], [`sets`], [`objects`] and [`damage`] make the inputs; [`run`] goes through them,
+//! counting in a [`tally`], and has [`shrink`] make an input that disagrees as small as it can.
+//! [`faults`] are wrong readers, some of them by [`miswriting`] and [`miscomposing`]. [`replay`] writes
+//! answers of the Rust's down, to be asked again where it is not at hand.
 
 pub mod children;
 pub mod compare;

@@ -193,7 +193,7 @@ impl Miscomposing<'_> {
     /// The pair whose name is an earlier one's.
     fn double(&self, pairs: &[Pair]) -> Option<usize> {
         let names = self.names();
-        // An id that is no entry has no name: so is one of its own.
+        // An id that is no entry has no name that could come again.
         let name = |[id, ..]: &Pair| names.get(*id as usize).copied();
         let named: Vec<(usize, &[u8])> = (0..)
             .zip(pairs)

@@ -49,8 +49,8 @@ impl Pairs {
         self.bytes.get(start as usize..end as usize)
     }
 
-    /// The fields in the order of their names, which those of the dictionary are handed for; or the first
-    /// pair that is refused. Each number is looked for in all pairs before the next.
+    /// The fields in the order of their names, where `names` are the dictionary's by their entries; or the
+    /// first pair that is refused. Each number is looked for in all pairs before the next.
     pub fn fields(&self, names: &[&[u8]]) -> Result<Vec<Field<'_>>, Bad> {
         let pairs = self.pairs();
         let all = |number: u32, is_good: &mut dyn FnMut(Pair) -> bool| {

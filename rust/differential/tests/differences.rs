@@ -674,35 +674,58 @@ fn an_object_over_the_limit() {
     assert_eq!((theirs.len(), Ok(theirs)), (LIMIT, ours));
 }
 
-/// The dictionary of names in no order is not sorted as the Rust's builder writes it with an object, and
-/// its ids are others; handed the names in order beforehand, and the fields in order, it writes what our
-/// writer does.
+/// Of as many lists in one another as the Rust takes, both write an object, and the Rust refuses it: it
+/// has one level more.
 #[test]
-fn a_dictionary_and_an_object() {
-    let fields = [("roll", 4), ("flow", -5), ("", 0)];
-    let built = |names: &[&str], fields: &[(&str, i8)]| {
-        let mut builder = VariantBuilder::new().with_field_names(names.iter().copied());
-        let mut object = builder.new_object();
-        for &(name, number) in fields {
-            object.insert(name, Variant::Int8(number));
-        }
-        object.finish();
-        builder.finish()
-    };
-    let child = |number: i8| [0x0C, number as u8];
-    let writer: ObjectWriter = fields
-        .iter()
-        .map(|&(name, number)| (name, child(number)))
-        .collect();
-    let ours = writer.finish().expect("names and children");
-    let theirs = built(&[], &fields);
-    assert_eq!(theirs.0, b"\x01\x03\x00\x04\x08\x08rollflow");
-    assert_eq!(theirs.1[..5], [2, 3, 2, 1, 0]);
-    let mut in_order = fields;
-    in_order.sort_unstable();
-    assert_eq!(built(&["", "flow", "roll"], &in_order), ours);
-    assert_eq!(ours.0, b"\x11\x03\x00\x00\x04\x08flowroll");
-    assert_eq!(ours.1[..5], [2, 3, 0, 1, 2]);
+fn a_child_of_all_levels() {
+    let lists = |levels: usize| nest(levels - 1, b"\x03\x00\x00", |_| true);
+    let (theirs, ours) = both_composed(&[("flow", &lists(MAX_NESTING_DEPTH))]);
+    assert_eq!(ours, Ok(theirs.clone()));
+    assert!(!rust_accepts(SORTED, &theirs) && lichenhusk::layer(SORTED, &theirs).is_ok());
+    let (theirs, ours) = both_composed(&[("flow", &lists(MAX_NESTING_DEPTH - 1))]);
+    assert!(rust_accepts(SORTED, &theirs));
+    assert_eq!(ours, Ok(theirs));
+}
+
+/// The dictionary and the object of names, the child of each a null: by the Rust's builder, which is
+/// handed some names before, and by our writer.
+fn both_with_dictionaries(before: &[&str], names: &[&str]) -> [(Vec<u8>, Vec<u8>); 2] {
+    let mut builder = VariantBuilder::new().with_field_names(before.iter().copied());
+    let mut object = builder.new_object();
+    for name in names {
+        object.insert(name, Variant::Null);
+    }
+    object.finish();
+    let writer: ObjectWriter = names.iter().map(|name| (name, [0])).collect();
+    let ours = writer.finish().expect("names, and children of a byte");
+    [builder.finish(), ours]
+}
+
+/// With the object of no fields the Rust's builder writes a dictionary that does not say that it is
+/// sorted.
+#[test]
+fn no_fields_and_their_dictionary() {
+    let [theirs, ours] = both_with_dictionaries(&[], &[]);
+    assert_eq!(theirs, (vec![0x01, 0, 0], vec![0x02, 0, 0]));
+    assert_eq!(ours, (vec![0x11, 0, 0], vec![0x02, 0, 0]));
+}
+
+/// The Rust's builder has the names in the order in which they come, and ids by that; handed the names in
+/// order beforehand, or the fields in order, it writes the dictionary that ours does. One field is in
+/// order, and of two names one has a byte at least.
+#[test]
+fn fields_in_another_order_and_their_dictionary() {
+    let [theirs, ours] = both_with_dictionaries(&[], &["a", ""]);
+    assert_eq!(theirs.0, [0x01, 2, 0, 1, 1, b'a']);
+    assert_eq!(theirs.1, [2, 2, 1, 0, 1, 0, 2, 0, 0]);
+    assert_eq!(ours.0, [0x11, 2, 0, 0, 1, b'a']);
+    assert_eq!(ours.1, [2, 2, 0, 1, 0, 1, 2, 0, 0]);
+    let [theirs, _] = both_with_dictionaries(&["", "a"], &["a", ""]);
+    assert_eq!(theirs, (ours.0, vec![2, 2, 0, 1, 1, 0, 2, 0, 0]));
+    for names in [&[""][..], &["a"], &["", "a"]] {
+        let [theirs, ours] = both_with_dictionaries(&[], names);
+        assert_eq!(theirs, ours, "{names:?}");
+    }
 }
 
 /// Thirty-two fields that share one child, in one another so deep.

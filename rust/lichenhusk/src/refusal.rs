@@ -79,7 +79,7 @@ pub enum Refusal {
     ObjectShort,
     /// 24: the object's count or last offset asks for a place above 4,294,967,295.
     ObjectOverflow,
-    /// 25: a field's id names no entry of the dictionary. Of an object to be written, so does a pair's.
+    /// 25: the id of a field, or of a pair to be written, names no entry of the dictionary.
     ObjectId {
         /// The first such field.
         field: u32,
@@ -351,7 +351,7 @@ impl fmt::Display for Refusal {
             ),
             ObjectOrder { field } => write!(
                 to,
-                "the name of the object's field {field} is not above that of the field before, or is to be written and is an earlier one's"
+                "the name of the object's field {field} is not above that of the field before or, in an object to be written, is that of an earlier one"
             ),
             ObjectOffset { field } => write!(
                 to,

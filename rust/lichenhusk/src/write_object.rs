@@ -88,9 +88,10 @@ fn length(total: usize, pairs: &[Pair]) -> usize {
 /// and a refusal leaves them all. What is answered is the layer that [`layer`](crate::layer()) reads back.
 ///
 /// `order` and `spare` are scratch. With a word for each pair in both, the time grows with the pairs as
-/// sorting them does, whatever their order. With fewer, none too, the answer is the same, the time
-/// grows with the square of the pairs, and nothing but the room is written. They may hold anything
-/// before; what they hold afterwards is not said.
+/// sorting them does, whatever their order; where a name comes again, as that of some sorts, since the
+/// first such pair is found by halving. With fewer, none too, the answer is the same, the time grows with
+/// the square of the pairs, and nothing but the room is written. They may hold anything before; what they
+/// hold afterwards is not said.
 ///
 /// ```
 /// use lichenhusk::{Layer, Refusal, write_object_into};

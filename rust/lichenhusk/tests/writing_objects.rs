@@ -286,6 +286,28 @@ fn scratch() {
     }
 }
 
+/// Nor is it under a refusal.
+#[test]
+fn scratch_under_a_refusal() {
+    let dict = hex(UNSORTED);
+    for (pairs, number) in [
+        ([[4, 0, 1], [0, 0, 1]], 25),
+        ([[0, 0, 1], [3, 0, 1]], 26),
+        ([[0, 0, 1], [1, 1, 0]], 45),
+        ([[0, 0, 1], [1, 1, 1]], 28),
+        ([[0, 0, 1], [1, 0, 1]], 46),
+    ] {
+        for [order, spare] in amounts(pairs.len()) {
+            let (mut order, mut spare) = (vec![WORD; order], vec![WORD; spare]);
+            let answer = write_object_into(&dict, &[4], &pairs, &mut order, &mut spare, &mut []);
+            assert_eq!(answer.map_err(|refusal| refusal.number()), Err(number));
+            if order.len().min(spare.len()) < pairs.len() {
+                assert!(order.iter().chain(&spare).all(|&word| word == WORD));
+            }
+        }
+    }
+}
+
 /// A dictionary of so many names of six letters, in the order of their entries.
 fn numbered(count: usize) -> Vec<u8> {
     write_dictionary((0..count).map(|number| format!("{number:06x}"))).unwrap()

@@ -17,7 +17,7 @@ write-object-spec =
     (λ c. search needs) (λ c. search needs)  -- enum-known-ids
     (λ c κs. let h = rw (c .before .before .before .before .before .before .before .before .head2 .given .1) at (c .before .before .before .before .before .before .before .before .before .before .checked .ensures) in
     let i = rw (c .before .before .before .before .ids2 .given .1) at (c .before .before .before .before .before .before .check-ids .ensures) in
-    (h .1, h .0 .start-is, ids-good _ _ .0 (i .0), i .1))  -- with-names-requires
+    (record { passes = h .1; starts = h .0 .start-is; sorted-is = h .0 .sorted-is }, ids-good _ _ .0 (i .0), i .1))  -- with-names-requires
     (λ c. promised (left-first _ _ (rw (c .before .head .given .1) at (c .before .before .before .checked .ensures)) refl))  -- returns
     (λ c. let h = rw (c .before .before .before .before .before .head2 .given .1) at (c .before .before .before .before .before .before .before .checked .ensures) in
     promised (left-next _ (h .1) (left-first _ _ (rw (c .before .ids .given .1) at (c .before .before .before .check-ids .ensures)) refl)))  -- returns-2
