@@ -6,7 +6,8 @@ ghost use Rattle.many.specs.Many.{rowsAfter};
 ghost use Rattle.listing.specs.Words.{wordsAfter};
 ghost use Rattle.parsing.specs.Parsing.{answer, namesAfter, wordsAfter as stepsAfter};
 ghost use Rattle.write.specs.Writing.{roomAfter};
-ghost use Rattle.lichenhusk.specs.Strip.{allWords, listWords, pathWords, writeWords};
+ghost use Rattle.write_object.specs.Writing.{roomAfter as objectAfter};
+ghost use Rattle.lichenhusk.specs.Strip.{allWords, listWords, pathWords, writeWords, writeObjectWords};
 ghost use Rattle.answers.specs.Numbers.{numbersOf};
 use answers::Answer;
 use ask::read;
@@ -64,5 +65,22 @@ pub fn write_dictionary(
 {
     let mut strip = [0u8; STRIP];
     lichenhusk::lichenhusk_write_dictionary(run, ends, order, spare, room, &mut strip);
+    read(&strip)
+}
+
+// An object layer from pairs over a dictionary. The six words are whole for as many words of pairs as 32 bits can number: a place is one of the pairs.
+pub fn write_object(
+    dict: &[u8],
+    bytes: &[u8],
+    pairs: &[u32],
+    order: &mut [u32],
+    spare: &mut [u32],
+    room: &mut [u8],
+) -> Answer
+    ensures { λ r. ⌜ (length (now (pairs .entry)) ≤ 4294967296 → numbersOf r ≡ writeObjectWords (now (dict .entry)) (now (bytes .entry)) (now (pairs .entry)) (now (room .entry))) ⌝ }
+    ensures { λ _. ⌜ now (room .exit) ≡ objectAfter (now (dict .entry)) (now (bytes .entry)) (now (pairs .entry)) (now (room .entry)) ⌝ }
+{
+    let mut strip = [0u8; STRIP];
+    lichenhusk::lichenhusk_write_object(dict, bytes, pairs, order, spare, room, &mut strip);
     read(&strip)
 }

@@ -1,10 +1,11 @@
 // A question on a line, and its answer:
 //
 //     dictionary D     name D N     layer D O     lookup D O NAME     list D O ROOM     all D O RUN ROOM END ..     value V     tree D V
-//     path D V PATH     write RUN ROOM END ..
+//     path D V PATH     write RUN ROOM END ..     write-object D BYTES ROOM WORD ..
 //
-// D, O, NAME, RUN, V and PATH are bytes in hex, `-` for none; N is an entry's number, ROOM how many words the answer may fill, of `write` how many
-// bytes. RUN is names, one after another, to be looked up or written, and after ROOM comes where each ends.
+// D, O, NAME, RUN, V, PATH and BYTES are bytes in hex, `-` for none; N is an entry's number, ROOM how many words the answer may fill, of what is
+// written how many bytes. RUN is names, one after another, to be looked up or written, and after ROOM comes where each ends; of an object come
+// the words of its pairs, id, start and end in BYTES.
 use answers::Answer;
 use ask_into::STEPS;
 use operands::Operands;
@@ -20,7 +21,7 @@ use slices::part_of;
 use slices::spread;
 use text::word;
 
-// The most ends that a program has room for: so many names are sorted with scratch.
+// The most ends, or words of pairs, that a program has room for: so many names are sorted with scratch.
 pub const ENDS: usize = 16_384;
 
 // What is asked, the place of the verb among all from 1 on, or 0 for a word that asks nothing; and where the line goes on.
@@ -33,9 +34,9 @@ fn verb_of(line: &[u8]) -> Verb {
     let w = word(line, 0);
     let a = w.start;
     let e = w.end;
-    let verbs = b"dictionary name layer lookup list all value tree path write";
+    let verbs = b"dictionary name layer lookup list all value tree path write write-object";
     Verb {
-        kind: which(verbs, 10, &line[a..e]),
+        kind: which(verbs, 11, &line[a..e]),
         next: e,
     }
 }
@@ -43,7 +44,7 @@ fn verb_of(line: &[u8]) -> Verb {
 // How many of its words are bytes.
 fn rooms(kind: usize) -> usize {
     match kind {
-        3 | 5 | 8 => 2,
+        3 | 5 | 8 | 11 => 2,
         4 | 6 | 9 => 3,
         _ => 1,
     }
@@ -53,7 +54,7 @@ fn rooms(kind: usize) -> usize {
 fn tail(kind: usize) -> Tail {
     match kind {
         2 | 5 => Tail::Number,
-        6 | 10 => Tail::Numbers,
+        6 | 10 | 11 => Tail::Numbers,
         _ => Tail::Nothing,
     }
 }
@@ -132,8 +133,29 @@ fn compose(run: &[u8], ends: &[u32], room: &mut [u8]) -> Answer {
     ask_into::write_dictionary(run, ends, &mut order, &mut spare, room)
 }
 
-// It is written into room for `n` bytes, which is no more than there are words for its bytes.
-fn written(run: &[u8], ends: &[u32], n: usize, words: &mut [u32]) -> Outcome {
+// And the object of pairs.
+fn assemble(dict: &[u8], bytes: &[u8], pairs: &[u32], room: &mut [u8]) -> Answer {
+    let mut order = [0u32; ENDS];
+    let mut spare = [0u32; ENDS];
+    ask_into::write_object(dict, bytes, pairs, &mut order, &mut spare, room)
+}
+
+fn put_into(kind: usize, one: &[u8], two: &[u8], numbers: &[u32], room: &mut [u8]) -> Answer {
+    if kind == 10 {
+        return compose(one, numbers, room);
+    }
+    assemble(one, two, numbers, room)
+}
+
+// What is written of `one`, `two` and numbers, into room for `n` bytes, which is no more than there are words for its bytes.
+fn written(
+    kind: usize,
+    one: &[u8],
+    two: &[u8],
+    numbers: &[u32],
+    n: usize,
+    words: &mut [u32],
+) -> Outcome {
     if words.len() < n {
         return Outcome::NoCase(NO_ROOM);
     }
@@ -142,7 +164,7 @@ fn written(run: &[u8], ends: &[u32], n: usize, words: &mut [u32]) -> Outcome {
     }
     let mut lent = room::bytes();
     let bytes: &mut [u8] = &mut lent;
-    let a = compose(run, ends, &mut bytes[0..n]);
+    let a = put_into(kind, one, two, numbers, &mut bytes[0..n]);
     listed(a, spread(part_of(bytes, 0, a.end), words))
 }
 
@@ -163,7 +185,7 @@ fn asked(
     match kind {
         5 => list(one, two, read.number, words),
         6 => all(one, two, three, ends, read.number, words),
-        10 => written(one, ends, read.number, words),
+        10 | 11 => written(kind, one, two, ends, read.number, words),
         _ => Outcome::Answered(plain(kind, one, two, three, read.number)),
     }
 }

@@ -48,6 +48,9 @@ fn usage() {
     tell(
         b"       variant write-dictionary         the dictionary of the names on standard input, a line each\n",
     );
+    tell(
+        b"       variant write-object DICT        the object of the lines NAME HEX on standard input, a child each\n",
+    );
     tell(b"       variant batch                    answers to the lines of standard input\n");
 }
 
@@ -139,13 +142,30 @@ pub fn get(path: &[u8], value_path: &[u8], steps: &[u8]) {
     with_both(Wish::Get, path, value_path, steps, &[0; 0]);
 }
 
-// The bytes of the dictionary are all that goes to standard output.
+// What is written is all that goes to standard output.
+fn send(bytes: &[u8], or_else: &[u8]) {
+    if !io::write_all(STDOUT_FILENO, bytes) {
+        tell_to(STDERR_FILENO, or_else);
+    }
+}
+
 fn write_dictionary() {
     let mut room = room::bytes();
     let n = composed::from_input(STDIN_FILENO, STDERR_FILENO, &mut room);
-    if !io::write_all(STDOUT_FILENO, &room[0..n]) {
-        tell_to(STDERR_FILENO, b"cannot write the dictionary\n");
+    send(&room[0..n], b"cannot write the dictionary\n");
+}
+
+// The object of lines over the dictionary of a file.
+fn write_object(path: &[u8]) {
+    let mut lent = [0u8; LENT];
+    let dict = files::load_to(STDERR_FILENO, path, &mut lent);
+    if !dict.good {
+        return;
     }
+    let n = dict.len;
+    let mut room = room::bytes();
+    let m = assembled::from_input(&lent[0..n], STDIN_FILENO, STDERR_FILENO, &mut room);
+    send(&room[0..m], b"cannot write the object\n");
 }
 
 // The commands of two words, of three and of four, by the number of the verb; `variant` is among the words.
@@ -158,10 +178,10 @@ fn of_input(kind: usize) {
 }
 
 fn of_file(kind: usize, path: &[u8]) {
-    if kind == 3 {
-        check(path);
-    } else {
-        usage();
+    match kind {
+        3 => check(path),
+        7 => write_object(path),
+        _ => usage(),
     }
 }
 
@@ -177,7 +197,11 @@ fn of_files(kind: usize, one: &[u8], two: &[u8]) {
 
 // A command of `count` words; the words that are not there are empty. Those of more are `find` and `get`.
 pub fn act(count: usize, verb: &[u8], one: &[u8], two: &[u8]) {
-    let kind = which(b"batch write-dictionary check name list tree", 6, verb);
+    let kind = which(
+        b"batch write-dictionary check name list tree write-object",
+        7,
+        verb,
+    );
     match count {
         2 => of_input(kind),
         3 => of_file(kind, one),

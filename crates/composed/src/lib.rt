@@ -40,7 +40,7 @@ pub fn from_input(input: i32, to: i32, out: &mut [u8]) -> usize
     let n = text.len;
     let a = compose(&room[0..n], out);
     if a.code != 0 {
-        reasons::unwritten(to, a.code, a.place, out.len());
+        unwritten::dictionary(to, a.code, a.place, out.len());
         return 0;
     }
     a.end

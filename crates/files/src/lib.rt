@@ -2,10 +2,9 @@
 ghost use Prim.Native.Nat.{_≤_};
 ghost use lib.ListN.{length};
 use libc::STDOUT_FILENO;
-use print::quoted;
+use print::quoted_to;
 use print::room::ROOM;
 use print::room::use_library;
-use print::tell;
 use print::tell_to;
 
 // What a file is read into: a byte more than a program has room for, so that a longer file is seen.
@@ -39,19 +38,19 @@ fn why(to: i32, error: i32) {
     }
 }
 
-fn cannot(path: &[u8]) {
-    tell(b"cannot read ");
-    quoted(path);
-    tell(b": ");
+fn cannot(to: i32, path: &[u8]) {
+    tell_to(to, b"cannot read ");
+    quoted_to(to, path);
+    tell_to(to, b": ");
 }
 
-fn failed(path: &[u8]) {
+fn failed(to: i32, path: &[u8]) {
     let error = os::errno();
-    cannot(path);
-    why(STDOUT_FILENO, error);
+    cannot(to, path);
+    why(to, error);
 }
 
-// The same of standard input, to `to`, after some words.
+// The same of standard input, after some words.
 pub fn input_failed(to: i32, before: &[u8]) {
     let error = os::errno();
     tell_to(to, before);
@@ -59,11 +58,11 @@ pub fn input_failed(to: i32, before: &[u8]) {
     why(to, error);
 }
 
-fn too_long(path: &[u8]) {
-    cannot(path);
-    tell(b"it is");
-    use_library(STDOUT_FILENO, ROOM, b" bytes");
-    tell(b"\n");
+fn too_long(to: i32, path: &[u8]) {
+    cannot(to, path);
+    tell_to(to, b"it is");
+    use_library(to, ROOM, b" bytes");
+    tell_to(to, b"\n");
 }
 
 // As much of the file as there is room for. A read that fails, the first or a later one, leaves nothing of it.
@@ -85,25 +84,33 @@ fn read(fd: i32, out: &mut [u8]) -> File
     File { good: true, len }
 }
 
-pub fn load(path: &[u8], out: &mut [u8; LENT]) -> File
+// All of a file; why it cannot be read goes to `to`.
+pub fn load_to(to: i32, path: &[u8], out: &mut [u8; LENT]) -> File
     ensures { λ r. do ⌜ r .len ≤ (← ⟦ROOM⟧ .entry) ⌝ }
     ensures { λ r. ⌜ r .len ≤ length (now (out .exit)) ⌝ }
 {
     let fd = os::open_read(path);
     if fd < 0 {
-        failed(path);
+        failed(to, path);
         return bad();
     }
     let file = read(fd, out);
     if !file.good {
-        failed(path);
+        failed(to, path);
     }
     libc::close(fd);
     if ROOM < file.len {
-        too_long(path);
+        too_long(to, path);
         return bad();
     }
     file
+}
+
+pub fn load(path: &[u8], out: &mut [u8; LENT]) -> File
+    ensures { λ r. do ⌜ r .len ≤ (← ⟦ROOM⟧ .entry) ⌝ }
+    ensures { λ r. ⌜ r .len ≤ length (now (out .exit)) ⌝ }
+{
+    load_to(STDOUT_FILENO, path, out)
 }
 
 // All of standard input, or of what is open as `fd` in its place; why it cannot be read goes to `to`.

@@ -1,7 +1,7 @@
 // The words of a question after its verb: bytes in hex, `-` for none, into rooms lent; then numbers.
 ghost use Prim.Native.Nat.{_≤_};
 ghost use lib.ListN.{length};
-use crate::faults::MANY_ENDS;
+use crate::faults::MANY_NUMBERS;
 use crate::faults::MISSING;
 use crate::faults::NO_NUMBER;
 use crate::faults::TOO_MANY;
@@ -104,7 +104,7 @@ fn numbers_at(text: &[u8], from: usize, out: &mut [u32]) -> Operand
     let mut len: usize = 0;
     while !ends(text, at) {
         if len == out.len() {
-            return faulty(MANY_ENDS);
+            return faulty(MANY_NUMBERS);
         }
         let read = number_at(text, at);
         if read.fault != 0 {

@@ -47,22 +47,27 @@ pub fn write_words(s: &[u32]) {
 }
 
 // A byte of a name. What would end the quotes or reach a terminal as a control is written `\xNN`.
-fn letter(b: u8) {
+fn letter(to: i32, b: u8) {
     match b {
         0..=31 | b'"' | b'\\' | 127 => {
-            tell(b"\\x");
-            io::print_hex(STDOUT_FILENO, width::wide(b) as u64, 2);
+            tell_to(to, b"\\x");
+            io::print_hex(to, width::wide(b) as u64, 2);
         }
         _ => {
-            tell(&[b]);
+            tell_to(to, &[b]);
         }
     }
 }
 
-pub fn quoted(name: &[u8]) {
-    tell(b"\"");
+// A name in quotes, to an open file.
+pub fn quoted_to(to: i32, name: &[u8]) {
+    tell_to(to, b"\"");
     for i in 0..name.len() {
-        letter(name[i]);
+        letter(to, name[i]);
     }
-    tell(b"\"");
+    tell_to(to, b"\"");
+}
+
+pub fn quoted(name: &[u8]) {
+    quoted_to(STDOUT_FILENO, name);
 }

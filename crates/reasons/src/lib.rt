@@ -1,6 +1,5 @@
 // Why something is refused, as words to standard output, or to `to`: what is here promises safety only.
 use libc::STDOUT_FILENO;
-use print::room::use_library;
 use print::say_to;
 use print::tell;
 use print::tell_to;
@@ -12,19 +11,26 @@ pub fn above_limit(to: i32, what: &[u8]) -> bool {
     tell_to(to, b" bytes")
 }
 
-fn meaning_of_dictionary(code: usize) -> bool {
+// Why a dictionary is refused.
+pub fn meaning_of_dictionary(to: i32, code: usize) -> bool {
     match code {
-        10 => above_limit(STDOUT_FILENO, b"the dictionary"),
-        11 => tell(b"the dictionary is empty"),
-        12 => tell(b"the dictionary's version is not 1"),
-        13 => tell(b"the dictionary is cut short"),
-        14 => tell(b"a sum in the dictionary is above the u32 range"),
-        15 => tell(b"the dictionary's first offset is not 0"),
-        16 => tell(b"not UTF-8"),
-        17 => tell(b"its offsets fall, pass the value region or cut a character"),
-        18 => tell(b"the dictionary is sorted, and it is not above the one before"),
-        19 => tell(b"the text ends inside a character; ask for the rest"),
-        _ => tell(b"the dictionary has no such entry"),
+        10 => above_limit(to, b"the dictionary"),
+        11 => tell_to(to, b"the dictionary is empty"),
+        12 => tell_to(to, b"the dictionary's version is not 1"),
+        13 => tell_to(to, b"the dictionary is cut short"),
+        14 => tell_to(to, b"a sum in the dictionary is above the u32 range"),
+        15 => tell_to(to, b"the dictionary's first offset is not 0"),
+        16 => tell_to(to, b"not UTF-8"),
+        17 => tell_to(
+            to,
+            b"its offsets fall, pass the value region or cut a character",
+        ),
+        18 => tell_to(
+            to,
+            b"the dictionary is sorted, and it is not above the one before",
+        ),
+        19 => tell_to(to, b"the text ends inside a character; ask for the rest"),
+        _ => tell_to(to, b"the dictionary has no such entry"),
     }
 }
 
@@ -73,18 +79,6 @@ fn meaning_of_path(code: usize) -> bool {
     }
 }
 
-// Why no dictionary is written of names that are lines; there is room for `most` bytes.
-fn meaning_of_unwritten(to: i32, code: usize, most: usize) -> bool {
-    match code {
-        10 => above_limit(to, b"the dictionary"),
-        46 => {
-            tell_to(to, b"the dictionary is");
-            use_library(to, most, b" bytes")
-        }
-        _ => tell_to(to, b"it is not UTF-8"),
-    }
-}
-
 // Where it is, for those that have a place.
 fn write_place(to: i32, code: usize, place: usize) {
     match code {
@@ -106,16 +100,16 @@ pub fn meaning(code: usize) -> bool {
         20..=28 | 41 | 43 | 45 => meaning_of_object(code),
         50..=62 => meaning_of_value(code),
         70..=76 => meaning_of_path(code),
-        _ => meaning_of_dictionary(code),
+        _ => meaning_of_dictionary(STDOUT_FILENO, code),
     }
 }
 
-fn number_to(to: i32, code: usize, place: usize) {
+// What comes before the meaning: the number, and where it is.
+pub fn number_to(to: i32, code: usize, place: usize) {
     say_to(to, b"refused ", code);
     write_place(to, code, place);
 }
 
-// What comes before the meaning.
 pub fn number(code: usize, place: usize) {
     number_to(STDOUT_FILENO, code, place);
     tell(b": ");
@@ -129,23 +123,4 @@ pub fn why(code: usize, place: usize) {
 pub fn refused(code: usize, place: usize) {
     why(code, place);
     tell(b"\n");
-}
-
-// The line of a name where each has one: names are counted from 0, and lines from 1, as editors do.
-fn line_of(name: usize) -> usize {
-    if name < usize::MAX {
-        return name + 1;
-    }
-    name
-}
-
-// Of a dictionary that was to be written of names that are lines, to `to`.
-pub fn unwritten(to: i32, code: usize, place: usize, most: usize) {
-    number_to(to, code, place);
-    if code == 45 {
-        say_to(to, b", line ", line_of(place));
-    }
-    tell_to(to, b": ");
-    meaning_of_unwritten(to, code, most);
-    tell_to(to, b"\n");
 }

@@ -3,6 +3,7 @@
 // file in place of standard input.
 ghost use Prim.Native.Nat.{_≤_};
 ghost use lib.ListN.{length};
+use files::LENT;
 use libc::STDOUT_FILENO;
 use print::room;
 use text::find;
@@ -115,6 +116,25 @@ fn write_dictionary(path: &[u8]) {
     }
 }
 
+// And `write-object` over the dictionary of a file, of another: its fields are listed.
+fn write_object(path: &[u8], lines: &[u8]) {
+    let mut lent = [0u8; LENT];
+    let dict = files::load_to(STDOUT_FILENO, path, &mut lent);
+    if !dict.good {
+        return;
+    }
+    let m = dict.len;
+    let mut room = room::bytes();
+    let fd = os::open_read(lines);
+    let n = assembled::from_input(&lent[0..m], fd, STDOUT_FILENO, &mut room);
+    libc::close(fd);
+    if 0 < n {
+        print::write_hex(front(&room[0..n]));
+        print::tell(b"\n");
+        described::list(&lent[0..m], &room[0..n]);
+    }
+}
+
 fn act(line: &[u8]) {
     let verb = word(line, 0);
     let one = word(line, verb.end);
@@ -135,6 +155,8 @@ fn act(line: &[u8]) {
         get(&line[c..d], &line[e..f], &line[g..h]);
     } else if n == 3 && check::same(&line[a..b], b"write-dictionary") {
         write_dictionary(&line[c..d]);
+    } else if n == 4 && check::same(&line[a..b], b"write-object") {
+        write_object(&line[c..d], &line[e..f]);
     } else {
         command::act(n, &line[a..b], &line[c..d], &line[e..f]);
     }

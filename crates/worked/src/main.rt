@@ -1,7 +1,7 @@
 // Runs the worked cases that the tables of starred cases do not prove, and the vectors of the Rust's documentation, each against the
-// answer that is expected of it. Most are lines of data/cases, `name: question = answer`; those of what stands in rooms lent are lines of
-// data/children, data/paths and data/writes, and the others are in special.rt, with their answers. A line a case: its name, the answer, and
-// whether it is as expected.
+// answer that is expected of it. Most are lines of data/cases and data/object_cases, `name: question = answer`; those of what stands in rooms
+// lent are lines of data/children, data/paths, data/writes and data/objects, and the others are in special.rt, with their answers. A line a
+// case: its name, the answer, and whether it is as expected.
 //
 // The vectors of builder.rs and of variant.rs's objects are the bytes that the Rust's builder makes in those examples.
 use libc::STDOUT_FILENO;
@@ -12,6 +12,7 @@ mod report;
 mod special;
 mod writes;
 
+use crate::writes::What;
 use outcomes::Outcome;
 use tally::Tally;
 use text::find;
@@ -33,7 +34,7 @@ fn answer(t: Tally, question: &[u8], want: &[u8]) -> Tally {
     let mut dict = [0u8; ROOM];
     let mut object = [0u8; ROOM];
     let mut query = [0u8; ROOM];
-    let mut ends = [0u32; 16];
+    let mut ends = [0u32; 32];
     let mut room = [0u32; ROOM];
     let words: &mut [u32] = &mut room;
     let outcome = cases::answer(
@@ -71,6 +72,7 @@ enum Kind {
     Child,
     Path,
     Write,
+    WriteObject,
 }
 
 fn case(t: Tally, kind: Kind, line: &[u8]) -> Tally {
@@ -78,7 +80,8 @@ fn case(t: Tally, kind: Kind, line: &[u8]) -> Tally {
         Kind::Question => question(t, line),
         Kind::Child => children::case(t, line),
         Kind::Path => paths::case(t, line),
-        Kind::Write => writes::case(t, line),
+        Kind::Write => writes::case(t, What::Dictionary, line),
+        Kind::WriteObject => writes::case(t, What::Object, line),
     }
 }
 
@@ -106,5 +109,7 @@ fn main() {
     let t = table(tally::none(), Kind::Question, b"cases");
     let t = table(special::rooms(t), Kind::Child, b"children");
     let t = table(special::run(t), Kind::Path, b"paths");
-    report::close(table(t, Kind::Write, b"writes"));
+    let t = table(t, Kind::Write, b"writes");
+    let t = table(t, Kind::Question, b"object_cases");
+    report::close(table(t, Kind::WriteObject, b"objects"));
 }

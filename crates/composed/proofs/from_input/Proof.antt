@@ -14,7 +14,7 @@ from-input-spec =
     (λ c. search needs)  -- part-compose-start
     (λ c. search needs)  -- part-compose-end
     (λ c κs. search needs)  -- compose-requires
-    (λ c κs. search needs)  -- unwritten-requires
+    (λ c κs. search needs)  -- dictionary-requires
     (λ c. search needs)  -- same-length
     (λ c. search needs)  -- returns-2
     (λ c. search needs)  -- same-length-2
