@@ -12,7 +12,9 @@ of-lines-spec =
     (λ c κs. search needs)  -- word-room-requires
     (λ c. search needs)  -- slice-aggregate-gather
     (λ c. search needs)  -- slice-aggregate-gather-2
-    (λ c κs. (c .before .before .before .before .before .before .before .pre .0, omega (arith, c .before .before .before .before .before .before .before .pre, c .before .before .word-room .ok, c .before .before .before .bytes .ok)))  -- gather-requires
+    (λ c κs. let made = c .before .before in
+    let pre = made .before .before .before .before .before .pre in
+    (pre .0, omega (arith, pre, made .word-room .ok, made .before .bytes .ok)))  -- gather-requires
     (λ c κs. search needs)  -- pair-requires
     (λ c. (λ z. absurd (omega arith), omega arith))  -- returns
     (λ c. search needs)  -- sub-assemble
@@ -27,8 +29,13 @@ of-lines-spec =
     (λ c. (λ z. absurd (omega arith), omega arith))  -- returns-2
     (λ c. search needs)  -- same-length-2
     (λ c. let call = c .before .before .before .before in
-    let got = call .before .before .before .before .before .before .before .before .before .before in
+    let done = call .before .before .before .before .before .before in
+    let got = done .before .before .before .before in
+    let made = got .before .before .before in
+    let room = made .before .before .before .before .before .args .out .now in
+    let g = got .gather in
     let w = call .assemble .ensures in
-    let made = of-lines (got .gather .last .1 .1 .1 .0) (got .gather .last .1 .1 .1 .1 .0) (got .before .before .before .before .before .before .before .before .args .out .now) (got .gather .result) (call .assemble .result)
-    (got .gather .ensures .0 (omega (arith, c .before .before .before .before .before .before .before .before .before .before .if1 .left))) (omega (arith, got .gather .ensures .1, got .gather .kept, got .before .before .before .word-room .ok)) (w .0) (w .1) (omega (arith, c .if2 .left)) in
-    (λ z. made .0, omega (arith, made .1, call .assemble .kept))))  -- returns-3
+    let object = of-lines (g .last .1 .1 .1 .0) (g .last .1 .1 .1 .1 .0) room (g .result) (call .assemble .result)
+    (g .ensures .0 (omega (arith, done .if1 .left))) (omega (arith, g .ensures .1, g .kept, made .word-room .ok))
+    (w .0) (w .1) (omega (arith, c .if2 .left)) in
+    (λ z. object .0, omega (arith, object .1, call .assemble .kept))))  -- returns-3
