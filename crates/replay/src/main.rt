@@ -13,7 +13,7 @@ fn agrees(question: &[u8], words: &[u8]) -> bool {
     let mut dict = [0u8; 256];
     let mut object = [0u8; 256];
     let mut query = [0u8; 256];
-    let mut ends = [0u32; 8];
+    let mut numbers = [0u32; 16];
     let mut room = [0u32; 64];
     let rows: &mut [u32] = &mut room;
     let outcome = cases::answer(
@@ -21,7 +21,7 @@ fn agrees(question: &[u8], words: &[u8]) -> bool {
         &mut dict,
         &mut object,
         &mut query,
-        &mut ends,
+        &mut numbers,
         rows,
     );
     match outcome {
@@ -68,8 +68,8 @@ fn run(text: &[u8]) -> Tally {
 }
 
 // As many bytes as the answers have, and some.
-fn room() -> [u8; 327_680] {
-    [0; 327_680]
+fn room() -> [u8; 352_256] {
+    [0; 352_256]
 }
 
 fn main() {

@@ -1,7 +1,8 @@
-// What the Rust says on a line, held against our six numbers, and of many names and of a dictionary that is written against our words, too:
+// What the Rust says on a line, held against our six numbers, and of many names and of what is written against our words, too:
 //
 //     accepts COUNT END     child COUNT END     at START END     found FIELD ID START END     absent     refuses NUMBER     refuses NUMBER START
 //     rows COUNT END : CODE FIELD ID START END ..     reads KIND LOW HIGH     writes COUNT LENGTH : BYTE ..
+//     lays COUNT START LENGTH : BYTE ..
 use answers::Answer;
 use operands::ends;
 use outcomes::expected::has_filled;
@@ -132,42 +133,59 @@ pub fn agrees(words: &[u8], a: Answer) -> bool {
     }
 }
 
-// Whether the text from `from` on has count and end, and after them the `n` words that we filled.
-fn rows(text: &[u8], from: usize, a: Answer, words: &[u32], n: usize) -> bool {
-    let count = see(text, from, a.number);
-    if !count.same {
-        return false;
-    }
-    let end = see(text, count.next, a.end);
+// Whether the text from `from` on has the end, and after it the `n` words that we filled.
+fn filled(text: &[u8], from: usize, a: Answer, words: &[u32], n: usize) -> bool {
+    let end = see(text, from, a.end);
     if !end.same {
         return false;
     }
     has_filled(text, end.next, words, n)
 }
 
-// Whether the verb is that of such words: of many names' rows, or of a dictionary's bytes, which have no start.
-fn has_words(verb: &[u8], a: Answer) -> bool {
-    if check::same(verb, b"rows") {
-        return true;
-    }
-    if !check::same(verb, b"writes") {
+// Count and end: of many names, and of a dictionary that is written.
+fn rows(text: &[u8], from: usize, a: Answer, words: &[u32], n: usize) -> bool {
+    let count = see(text, from, a.number);
+    if !count.same {
         return false;
     }
-    a.start == 0
+    filled(text, count.next, a, words, n)
 }
 
-// Of many names, and of a dictionary that is written.
-pub fn agrees_rows(text: &[u8], a: Answer, words: &[u32], n: usize) -> bool {
-    let verb = word(text, 0);
-    let s = verb.start;
-    let e = verb.end;
-    if !has_words(&text[s..e], a) {
+// Count, start and end: of an object that is written.
+fn lays(text: &[u8], from: usize, a: Answer, words: &[u32], n: usize) -> bool {
+    let count = see(text, from, a.number);
+    if !count.same {
         return false;
     }
+    let start = see(text, count.next, a.start);
+    if !start.same {
+        return false;
+    }
+    filled(text, start.next, a, words, n)
+}
+
+// Of many names, and of what is written. A dictionary has no start.
+pub fn agrees_rows(text: &[u8], a: Answer, words: &[u32], n: usize) -> bool {
+    let w = word(text, 0);
+    let s = w.start;
+    let e = w.end;
+    let verb = &text[s..e];
     if a.id != 0 {
         return false;
     }
     if a.place != 0 {
+        return false;
+    }
+    if check::same(verb, b"rows") {
+        return rows(text, e, a, words, n);
+    }
+    if check::same(verb, b"lays") {
+        return lays(text, e, a, words, n);
+    }
+    if !check::same(verb, b"writes") {
+        return false;
+    }
+    if a.start != 0 {
         return false;
     }
     rows(text, e, a, words, n)

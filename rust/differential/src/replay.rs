@@ -7,8 +7,11 @@
 //! what, and of the value at which start, the [`reference`](crate::reference) says. Of a path it says for
 //! what it refuses it or, into a tree that it accepts, which value it finds, or none; where that stands,
 //! and why there is none, the [`walk`](crate::walk) says. Of names to be written it says what its builder
-//! writes for them; which of them are no names, the library says.
+//! writes for them; which of them are no names, the library says. Of pairs to be written it says what its
+//! builder writes for the fields, in the order of their names; which pairs are refused, and for what, the
+//! plain writer says ([`pairs`](crate::pairs)), where the Rust refuses one of them too.
 
+use crate::composing;
 use crate::damage::damaged;
 use crate::extremes;
 use crate::fixed;
@@ -20,14 +23,15 @@ use crate::original::{
     traced_start,
 };
 use crate::ours::{accepted, refused_at};
+use crate::pairs::{Field, Pairs};
 use crate::random::Random;
-use crate::reading::ObjectParts;
-use crate::reference::Tree;
+use crate::reading::{ObjectParts, own_length};
+use crate::reference::{Tree, names_of};
 use crate::tree::visits;
 use crate::values::said_by;
 use crate::walk::Walk;
 use crate::writing::built;
-use crate::{Input, hex, paths, sets, trees};
+use crate::{Input, hex, objects, paths, sets, trees};
 use lichenhusk::{ABSENT, LIMIT, OK, Strip, WORDS_PER_NAME, WORDS_PER_STEP, run_of};
 use parquet_variant::{Variant, VariantMetadata, VariantObject, VariantPath};
 use std::collections::{BTreeMap, BTreeSet};
@@ -37,16 +41,16 @@ use std::fmt;
 pub const SEED: u64 = 60;
 
 /// How many lines the repository keeps.
-pub const KEPT: usize = 3_900;
+pub const KEPT: usize = 4_200;
 
-/// One line in so many is a tree's, one a path's, and one of names to be written.
-const SHARE: usize = 13;
+/// One line in so many is a tree's, one a path's, one of names to be written, and one of pairs.
+const SHARE: usize = 14;
 
 /// The longest line that is taken.
 const LONGEST: usize = 130;
 
-/// The most bytes in all: the program that replays the lines has room for 327,680.
-pub const MOST_BYTES: usize = 320_000;
+/// The most bytes in all: the program that replays the lines has room for 352,256.
+pub const MOST_BYTES: usize = 344_000;
 
 /// The most names at once: a reader of the lines has room for their rows.
 const MOST_NAMES: usize = 3;
@@ -67,7 +71,7 @@ const ROUNDS: usize = 200;
 
 /// So many lines at most, chosen over all answers and shapes, in order.
 pub fn lines(seed: u64, most: usize) -> Vec<String> {
-    let mut chosen = Chosen::new(most - 3 * (most / SHARE));
+    let mut chosen = Chosen::new(most - 4 * (most / SHARE));
     for input in fixed::inputs() {
         chosen.take(&input, usize::MAX);
     }
@@ -90,9 +94,12 @@ pub fn lines(seed: u64, most: usize) -> Vec<String> {
     chosen.most += most / SHARE;
     let paths = (paths::followed as Good, paths::damaged as Damaged);
     chosen.take_more(&mut random, paths::fixed(), 1, paths);
-    chosen.most = most;
+    chosen.most += most / SHARE;
     let names = (sets::good as Good, sets::damaged as Damaged);
     chosen.take_more(&mut random, sets::fixed(), 1, names);
+    chosen.most = most;
+    let pairs = (objects::good as Good, objects::damaged as Damaged);
+    chosen.take_more(&mut random, objects::fixed(), 1, pairs);
     chosen.lines.into_iter().collect()
 }
 
@@ -118,7 +125,7 @@ impl Chosen {
         self.lines.len() < self.most && self.bytes + LONGEST < MOST_BYTES
     }
 
-    /// Takes trees, paths, or names to be written, in rounds as the others.
+    /// Takes trees, paths, or names or pairs to be written, in rounds as the others.
     fn take_more(
         &mut self,
         random: &mut Random,
@@ -189,6 +196,8 @@ enum Says {
     Path(Strip, usize),
     /// Names that are written: how many of them there are, and the dictionary.
     Writes(usize, Vec<u8>),
+    /// Fields that are written: how many of them there are, where their children begin, and the object.
+    Lays(usize, usize, Vec<u8>),
     /// Refused, by our number.
     Refused(u32),
 }
@@ -222,6 +231,10 @@ impl fmt::Display for Says {
             Says::Writes(count, dict) => {
                 write!(to, "writes {count} {} :", dict.len())?;
                 dict.iter().try_for_each(|byte| write!(to, " {byte}"))
+            }
+            Says::Lays(count, start, object) => {
+                write!(to, "lays {count} {start} {} :", object.len())?;
+                object.iter().try_for_each(|byte| write!(to, " {byte}"))
             }
             Says::Refused(number) => write!(to, "refuses {number}"),
         }
@@ -264,6 +277,9 @@ impl Answer {
         }
         if let Some(given) = &input.names {
             return names_class(&self.says, given);
+        }
+        if let Some(pairs) = &input.pairs {
+            return pairs_class(&self.says, &input.dict, pairs);
         }
         let (dict_bits, object_bits) = match (self.kind(), &self.says) {
             ("dictionary", _) => (WIDTH | SORTED, 0),
@@ -335,6 +351,27 @@ fn names_class(says: &Says, given: &Given) -> String {
             format!("write {count} {written} {sorted} {plain} {goes_on}")
         }
         _ => format!("write {says} {count} {:?} {goes_on}", given.texts().err()),
+    }
+}
+
+/// The class of pairs to be written: by what is answered, and where it is not the dictionary that is
+/// refused by how many there are, whether words are left over, and whether the dictionary says that it is
+/// sorted; of those that are written, also by whether they are in order, and whether they share bytes.
+fn pairs_class(says: &Says, dict: &[u8], given: &Pairs) -> String {
+    let pairs = given.pairs();
+    let (count, left_over) = (pairs.len().min(5), given.words.len() % 3);
+    let sorted = dict.first().map(|header| header & SORTED);
+    let shape = format!("{count} {left_over} {sorted:?}");
+    match says {
+        Says::Lays(..) => {
+            let names = names_of(dict);
+            let in_order = pairs.is_sorted_by_key(|[id, ..]| names[*id as usize]);
+            let starts: BTreeSet<u32> = pairs.iter().map(|[_, start, _]| *start).collect();
+            let shared = starts.len() < pairs.len();
+            format!("write-object {shape} {in_order} {shared}")
+        }
+        Says::Refused(11..20) => format!("write-object {says}"),
+        _ => format!("write-object {says} {shape}"),
     }
 }
 
@@ -466,6 +503,75 @@ fn of_names(given: &Given) -> Vec<Answer> {
     [written].into_iter().chain(short).collect()
 }
 
+/// What is asked of pairs to be written: in room for their object, with some to spare once in three times
+/// by their lengths; and with a byte less once in four. Nothing where the Rust's builder is not to be
+/// asked for the object, or where it refuses no pair of those that are refused.
+fn of_pairs(dict: &[u8], pairs: &Pairs) -> Vec<Answer> {
+    let answer = |room: usize, says: Says| {
+        let words: Vec<String> = pairs.words.iter().map(|word| format!(" {word}")).collect();
+        let (dict, bytes) = (hex(dict), hex(&pairs.bytes));
+        let case = format!("write-object {dict} {bytes} {room}{}", words.concat());
+        Answer { case, says }
+    };
+    let size = dict.len() + pairs.bytes.len() + pairs.words.len();
+    let metadata = match VariantMetadata::try_new(dict) {
+        Ok(metadata) => metadata,
+        Err(error) => return vec![answer(size % 20, refused(dictionary_number(dict, &error)))],
+    };
+    let names = names_of(dict);
+    let fields = match pairs.fields(&names) {
+        Ok(fields) => fields,
+        Err((number, place)) => {
+            let is_refused = is_refused(&metadata, pairs, number, place);
+            let refused = is_refused.then(|| answer(size % 20, Says::Refused(number)));
+            return refused.into_iter().collect();
+        }
+    };
+    let Some(object) = object_built(&metadata, &fields) else {
+        return vec![];
+    };
+    let more = if size.is_multiple_of(3) { size % 5 } else { 0 };
+    let short = answer(object.len() - 1, Says::Refused(46));
+    let short = size.is_multiple_of(4).then_some(short);
+    let children: usize = fields.iter().map(|field| field.child.len()).sum();
+    let start = object.len() - children;
+    let written = answer(object.len() + more, Says::Lays(fields.len(), start, object));
+    [written].into_iter().chain(short).collect()
+}
+
+/// Whether the Rust, or its library, refuses a pair for what a number says.
+fn is_refused(metadata: &VariantMetadata, pairs: &Pairs, number: u32, place: usize) -> bool {
+    let pair @ [id, ..] = pairs.pairs()[place];
+    let name = metadata.get(id as usize);
+    match number {
+        25 => name.is_err(),
+        26 => {
+            let before = &pairs.pairs()[..place];
+            let mut names = before.iter().map(|[id, ..]| metadata.get(*id as usize));
+            names.any(|other| matches!((other, &name), (Ok(other), Ok(name)) if other == *name))
+        }
+        45 => pairs.child(pair).is_none(),
+        _ => {
+            let child = pairs.child(pair).unwrap_or_default();
+            Variant::try_new_with_metadata(metadata.clone(), child).is_err()
+        }
+    }
+}
+
+/// What the Rust's builder writes for fields; nothing where a child is no value or goes on after one, or
+/// an id is not the one that it finds.
+fn object_built(metadata: &VariantMetadata, fields: &[Field]) -> Option<Vec<u8>> {
+    let named = fields.iter().map(|field| {
+        let name = metadata.get(field.id).ok()?;
+        let (id, _) = metadata.get_entry(name)?;
+        let is_whole = own_length(field.child) == Ok(field.child.len());
+        let child = Variant::try_new_with_metadata(metadata.clone(), field.child).ok()?;
+        (id as usize == field.id && is_whole).then_some((name, child))
+    });
+    let named: Vec<_> = named.collect::<Option<_>>()?;
+    Some(composing::built(metadata, named))
+}
+
 /// The Rust is asked about trees in which fewer values are met.
 const MOST_VISITS: usize = 10_000;
 
@@ -475,6 +581,9 @@ fn answers(input: &Input) -> Vec<Answer> {
         return of_names(given);
     }
     let dict = &input.dict;
+    if let Some(pairs) = &input.pairs {
+        return of_pairs(dict, pairs);
+    }
     if let Some(value) = &input.tree {
         let answer = match &input.path {
             Some(path) => of_path(dict, value, path),

@@ -1,6 +1,7 @@
 //! The lines that are written down say what our answers must be, and ours are that.
 
 use differential::ours::{Archive, Reader};
+use differential::pairs::Pairs;
 use differential::replay::{KEPT, MOST_BYTES, SEED, lines};
 use lichenhusk::Strip;
 use std::collections::BTreeSet;
@@ -55,6 +56,14 @@ fn ours(case: &str) -> (Strip, Vec<u32>) {
             let strip = Archive.write_dictionary(&run, &ends, &mut [], &mut [], &mut lent);
             return (strip, lent.into_iter().map(u32::from).collect());
         }
+        ["write-object", d, children, room, ref words @ ..] => {
+            let (d, bytes, words) = (bytes(d), bytes(children), numbers(words));
+            let mut lent = vec![BEFORE as u8; number(room) as usize];
+            assert!(d.len().max(bytes.len()).max(lent.len()) <= 256 && words.len() <= 48);
+            let pairs = Pairs { bytes, words };
+            let strip = Archive.write_object(&d, &pairs, &mut [], &mut [], &mut lent);
+            return (strip, lent.into_iter().map(u32::from).collect());
+        }
         _ => panic!("no case: {case}"),
     };
     (strip, vec![])
@@ -65,6 +74,7 @@ fn holds(case: &str, says: &str, strip: Strip, lent: &[u32]) -> bool {
     let words: Vec<&str> = says.split(' ').collect();
     let rows = match words[..] {
         ["rows" | "writes", _, _, ":", ref rows @ ..] => numbers(rows),
+        ["lays", _, _, _, ":", ref bytes @ ..] => numbers(bytes),
         _ => vec![],
     };
     let (written, after) = lent.split_at(rows.len());
@@ -81,6 +91,9 @@ fn holds(case: &str, says: &str, strip: Strip, lent: &[u32]) -> bool {
             ours == [0, number(count), 0, start, number(end), 0]
         }
         ["writes", count, length, ":", ..] => ours == [0, number(count), 0, 0, number(length), 0],
+        ["lays", count, start, length, ":", ..] => {
+            ours == [0, number(count), 0, number(start), number(length), 0]
+        }
         ["at", start, end] => ours == [0, 0, 0, number(start), number(end), 0],
         ["found", field, id, start, end] => {
             ours == [0, number(field), number(id), number(start), number(end), 0]
@@ -112,7 +125,7 @@ fn kind(case: &str, says: &str) -> String {
 }
 
 /// What lines there must be.
-const KINDS: [&str; 77] = [
+const KINDS: [&str; 85] = [
     "dictionary accepts",
     "dictionary refuses 11",
     "dictionary refuses 12",
@@ -190,12 +203,20 @@ const KINDS: [&str; 77] = [
     "write writes",
     "write refuses 45",
     "write refuses 46",
+    "write-object lays",
+    "write-object refuses 13",
+    "write-object refuses 18",
+    "write-object refuses 25",
+    "write-object refuses 26",
+    "write-object refuses 28",
+    "write-object refuses 45",
+    "write-object refuses 46",
 ];
 
 #[test]
 fn our_answers_are_as_the_lines_say() {
-    let lines = lines(11, 2000);
-    assert_eq!(lines.len(), 2000);
+    let lines = lines(11, 2200);
+    assert_eq!(lines.len(), 2200);
     let mut kinds = BTreeSet::new();
     for line in &lines {
         let (case, says) = said(line);
