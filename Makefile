@@ -1,13 +1,21 @@
 # make run: the main job on an embedded sample. make test: everything that must pass.
 # make install PREFIX=..: the header, the archive and lichenhusk.pc, for C.
 
-.PHONY: run test host tested compared original archive below install differential bench
+.PHONY: run test host tested compared original archive install differential bench
 
 PREFIX = /usr/local
 
+# What a program or the archive stands on is proved before it, by as many cores as there are: rt by itself proves one crate
+# after another. What was proved before, and has not changed, is not proved again.
+JOBS = $(shell nproc)
+below = { [ -f out/$(1) ] || rt all check --jobs $(JOBS); }
+
+# Commands of rt, which say nothing unless one fails.
+quietly = said=$$(mktemp) && { { $(1); } >"$$said" 2>&1 || { cat "$$said"; rm -f "$$said"; exit 1; }; rm -f "$$said"; }
+
 # The command, proved and built, on document 01's dictionary and object.
 run:
-	@rt check variant >/dev/null || { rt check variant; exit 1; }
+	@$(call quietly,cd crates/variant && $(call below,variant) && rt run </dev/null)
 	@bin/variant
 
 # First what needs Rust, so that the very last line is rt ci's own.
@@ -31,16 +39,13 @@ compared:
 original:
 	@rust/run.sh original >/dev/null 2>&1 || true
 
-# The archive that C and Rust link. rt's own is for x86-64.
+# The archive that C and Rust link, under the name that they link it by. rt's own is for x86-64.
 ifeq ($(shell uname -m),x86_64)
 ARCHIVE = target/staticlib/liblichenhusk.a
-archive: below
-	@rt staticlib lichenhusk >/dev/null || { rt staticlib lichenhusk; exit 1; }
-
-# What the archive stands on, by as many cores as there are: rt staticlib proves one crate after another.
-BELOW = $(shell sed -n 's/^lichenhusk://p' crates.txt)
-below:
-	@rt check $(BELOW) >/dev/null || { rt check $(BELOW); exit 1; }
+archive:
+	@$(call quietly,cd crates/lichenhusk_c && $(call below,liblichenhusk_c.a) && rt lib)
+	@mkdir -p $(dir $(ARCHIVE))
+	@cmp -s crates/lichenhusk_c/out/liblichenhusk_c.a $(ARCHIVE) || cp crates/lichenhusk_c/out/liblichenhusk_c.a $(ARCHIVE)
 else
 ARCHIVE = target/native/liblichenhusk.a
 archive:

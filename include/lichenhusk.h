@@ -8,9 +8,10 @@
  * into the object's children, but for how long each is, where the fields are
  * listed; a child that is handed to lichenhusk_value is read as any value. Two
  * functions go further: lichenhusk_tree checks a value with all that is below it,
- * and lichenhusk_path follows a path such as site.meter[2] into one. And two write:
+ * and lichenhusk_path follows a path such as site.meter[2] into one. Two write:
  * lichenhusk_write_dictionary makes a dictionary of names, and
- * lichenhusk_write_object an object of fields over a dictionary.
+ * lichenhusk_write_object an object of fields over a dictionary. And two take a
+ * dictionary in that comes in pieces: lichenhusk_begin and lichenhusk_feed.
  *
  * Every function takes whatever bytes its buffers hold, keeps nothing,
  * allocates nothing and ends. It reads only the buffers that it is handed, and
@@ -24,7 +25,7 @@
  *     even for a length of 0: any other pointer will do there, say the address
  *     of some variable.
  *   - A buffer that is written (strip, words, marks, names of a path, order,
- *     spare, room) shares no memory with another buffer of the same call.
+ *     spare, room, store) shares no memory with another buffer of the same call.
  *   - words, ends, pairs, order and spare are aligned as a uint32_t is.
  *
  * THE STRIP. The answer goes to the first LICHENHUSK_STRIP_BYTES of a buffer of
@@ -36,7 +37,8 @@
  *   bytes  8 to 11   the id: the dictionary's entry that is a found field's name
  *   bytes 12 to 15   start; of a value that is a number, the low half of its bits
  *   bytes 16 to 19   end (the first byte that no longer belongs); of such a value,
- *                    the high half; of what is written, its length
+ *                    the high half; of what is written, its length; of pieces,
+ *                    how many bytes are wanted
  *   bytes 20 to 23   the place of a refusal
  *
  * A word that has no use in an answer is 0; on a refusal, all but the code and
@@ -94,7 +96,7 @@
  *   cc example.c $(pkg-config --cflags --libs lichenhusk) -o example
  *
  * builds the example. For x86-64 the archive is target/staticlib/liblichenhusk.a
- * of the repository, which `rt staticlib lichenhusk` makes. For aarch64 it is
+ * of the repository, which `make archive` makes. For aarch64 it is
  * target/native/liblichenhusk.a: `rust/native_archive.sh` has the same LLVM
  * module compiled for that processor. What is proved stops at the module.
  */
@@ -154,7 +156,8 @@ enum lichenhusk_word_index {
  * an object that is written, the dictionary comes first; then each of 25, 26, 45 and
  * 28, in this order, is looked for in all pairs before the next is; then 20, and 46
  * last. The place of these four is the pair, counted from 0 (of more than
- * 4,294,967,296 pairs, that number's low 32 bits).
+ * 4,294,967,296 pairs, that number's low 32 bits). Of a dictionary in pieces, 3 or 44
+ * stands for 11 and 13, and 10 is never given.
  */
 enum lichenhusk_code {
     /* Accepted, found, or written. */
@@ -162,6 +165,8 @@ enum lichenhusk_code {
     /* All is well, and the object has no field of that name, or the list no such
      * element. */
     LICHENHUSK_ABSENT = 1,
+    /* Of a dictionary in pieces: nothing is settled, and more bytes are wanted. */
+    LICHENHUSK_MORE = 3,
 
     /* The dictionary is longer than LICHENHUSK_LIMIT, or the one to be written
      * would be. */
@@ -232,6 +237,10 @@ enum lichenhusk_code {
      * its bytes go on past the object's trimmed end. The place: the field. No
      * word is written. */
     LICHENHUSK_CHILD_LENGTH = 43,
+    /* Of a dictionary in pieces: more bytes have come than there is room for, and
+     * those that there is room for settle nothing; or the state counts more bytes
+     * than there is room for, and then nothing is written to the store. */
+    LICHENHUSK_PIECES_NO_ROOM = 44,
 
     /* Of many names, one has an end that falls below where the name begins, or
      * that passes the run of names; or, of names to be written, it is not UTF-8.
@@ -722,6 +731,72 @@ uint32_t lichenhusk_write_object(const uint8_t *dict, size_t dict_len,
                                  uint32_t *spare, size_t spare_len,
                                  uint8_t *room, size_t room_len,
                                  uint8_t *strip, size_t strip_len);
+
+/*
+ * Begins a dictionary that comes in pieces: writes its first state to the strip.
+ *
+ * 3: number is 0, the bytes that are held, and end is 1, the bytes that are wanted.
+ * Or 40, with which nothing is written. Nothing else is answered.
+ */
+uint32_t lichenhusk_begin(uint8_t *strip, size_t strip_len);
+
+/*
+ * Takes the next piece of a dictionary in: copies it into store, after what is held
+ * there, and judges what is held then.
+ *
+ * THE STRIP IS THE STATE. It is read before it is written: hand over the one that
+ * lichenhusk_begin wrote, and then each time the one that the call before left. Of a
+ * code 3 the number is read, which says how many bytes of store are held, and no
+ * other word. Any other code is settled: it stays, with the whole strip, and so does
+ * store, whatever the piece is. (So a strip of zeros is settled, and not a first
+ * state.) Between the calls of one dictionary nobody else writes to store.
+ *
+ * However the bytes are cut, into pieces of no bytes too, the answer is that of
+ * lichenhusk_dictionary to the first bytes that came, as many as there is room for:
+ * store_len, or LICHENHUSK_LIMIT where that is less. Where these have no verdict yet,
+ * since lichenhusk_dictionary says 11 or 13 to them:
+ *
+ * 3: number is how many bytes are held, and end is how many are wanted: no fewer
+ *    settle it, whatever they are. It is more than are held, and no more than a good
+ *    dictionary has, so that a host that reads end - number bytes at most takes none
+ *    that come after the dictionary. It may be more than there is room for. A store
+ *    that is just full is no reason to refuse.
+ * 44: more bytes have come than there is room for.
+ *
+ * Otherwise it is settled, as lichenhusk_dictionary says it:
+ *
+ * 0: number is the entry count, end is the trimmed end, and so many bytes of store are
+ *    the dictionary.
+ * Or a refusal: 12, 14 to 19; or 40, with which nothing is written, to store neither.
+ *
+ * STORE IS WRITTEN, under a refusal too: a piece is copied as far as there is room, and
+ * then judged. Bytes of store after those that settle the verdict may depend on how the
+ * dictionary was cut. Bytes after the last piece that was copied stay as they are; a
+ * piece that comes when it is settled is not copied, nor one to a state that counts
+ * more bytes than there is room for (44).
+ *
+ * The time grows with the bytes and with the calls: until the header's checks pass, a
+ * call takes the same time whatever is held, beside its copying, and then the names
+ * are checked once.
+ *
+ * This takes the example's dictionary in, and prints "1 2 5 13 then 2 names":
+ *
+ *   uint8_t store[64];
+ *   uint32_t held, wanted;
+ *
+ *   lichenhusk_begin(strip, sizeof strip);
+ *   while (lichenhusk_word(strip, LICHENHUSK_CODE) == LICHENHUSK_MORE) {
+ *       held = lichenhusk_word(strip, LICHENHUSK_NUMBER);
+ *       wanted = lichenhusk_word(strip, LICHENHUSK_END);
+ *       printf("%u ", (unsigned) wanted);
+ *       lichenhusk_feed(store, sizeof store, dict + held, wanted - held,
+ *                       strip, sizeof strip);
+ *   }
+ *   printf("then %u names\n", (unsigned) lichenhusk_word(strip, LICHENHUSK_NUMBER));
+ */
+uint32_t lichenhusk_feed(uint8_t *store, size_t store_len,
+                         const uint8_t *piece, size_t piece_len,
+                         uint8_t *strip, size_t strip_len);
 
 /*
  * Writes the empty dictionary, the bytes 01 00 00, to the first three bytes of

@@ -10,6 +10,7 @@
 #   run.sh paths      the paths of these alone
 #   run.sh writing    the dictionaries that are written alone
 #   run.sh objects    the objects that are written alone
+#   run.sh pieces     the dictionaries in pieces alone
 #   run.sh replay N   answers of the Rust's, N lines at most, on standard output
 #   run.sh bench      the clock: all tables, or the one of a word
 #
@@ -96,7 +97,7 @@ case $task in
     has_source
     compare long "$@"
     ;;
-  trees | paths | writing | objects)
+  trees | paths | writing | objects | pieces)
     has_cargo
     has_source
     compare "$task" "$@"
@@ -113,7 +114,7 @@ case $task in
     target/measured/bench "$@"
     ;;
   *)
-    sed -n '2,17p' run.sh | cut -c3- >&2
+    sed -n '2,18p' run.sh | cut -c3- >&2
     exit 2
     ;;
 esac

@@ -1,8 +1,8 @@
 //! Finds the archive of the proved functions and has it linked.
 //!
 //! `LICHENHUSK_ARCHIVE` names the archive's file. Without it, it is looked for where this
-//! repository's commands write it: `rt staticlib lichenhusk` for x86-64, and
-//! `rust/native_archive.sh` elsewhere, which has the same module compiled for the processor.
+//! repository's `make archive` writes it for x86-64; for another processor where an archive of
+//! `rust/native_archive.sh` is to be brought, which has the same module compiled for it.
 
 use std::env;
 use std::path::{Path, PathBuf};
@@ -31,7 +31,7 @@ fn main() {
 fn of_this_repository() -> (PathBuf, &'static str) {
     let target = env::var("CARGO_CFG_TARGET_ARCH").unwrap_or_default();
     let (folder, command) = match target.as_str() {
-        "x86_64" => ("staticlib", "rt staticlib lichenhusk"),
+        "x86_64" => ("staticlib", "make archive"),
         _ => ("native", "rust/native_archive.sh"),
     };
     let here = env::var_os("CARGO_MANIFEST_DIR").expect("cargo sets it for build scripts");

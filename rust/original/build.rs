@@ -1,9 +1,9 @@
 //! Lays the source of parquet-variant 60.0.0 where `src/lib.rs` includes it.
 //!
 //! `LICHENHUSK_RUST_SOURCE` names the folder of the source (the one that has its `lib.rs`);
-//! without it, it is looked for beside this repository. Every module is compiled from there, byte
-//! for byte, through links. The crate's root alone is a copy, without its `//!` lines: those may
-//! not stand in an included file.
+//! without it, it is looked for beside this repository. Every module is compiled from a copy, byte
+//! for byte: `rt ci` refuses a link below the repository. The crate's root alone is without its
+//! `//!` lines: those may not stand in an included file.
 
 use std::env;
 use std::fs;
@@ -24,7 +24,7 @@ fn main() {
     };
     println!("cargo::rerun-if-changed={}", source.display());
     let laid = fresh_folder();
-    link_modules(&source, &laid);
+    copy_modules(&source, &laid);
     write_root(&source, &laid);
 }
 
@@ -38,13 +38,25 @@ fn fresh_folder() -> PathBuf {
     folder
 }
 
-fn link_modules(source: &Path, laid: &Path) {
+/// Everything of the folder but its own `lib.rs`.
+fn copy_modules(source: &Path, laid: &Path) {
     for entry in fs::read_dir(source).expect("a folder") {
         let entry = entry.expect("a folder's entry");
         if entry.file_name() != "lib.rs" {
-            std::os::unix::fs::symlink(entry.path(), laid.join(entry.file_name()))
-                .expect("a link in cargo's folder");
+            copy(&entry.path(), &laid.join(entry.file_name()));
         }
+    }
+}
+
+fn copy(from: &Path, to: &Path) {
+    if !from.is_dir() {
+        fs::copy(from, to).expect("room in cargo's folder");
+        return;
+    }
+    fs::create_dir(to).expect("room in cargo's folder");
+    for entry in fs::read_dir(from).expect("a folder") {
+        let entry = entry.expect("a folder's entry");
+        copy(&entry.path(), &to.join(entry.file_name()));
     }
 }
 

@@ -1,7 +1,10 @@
 // The six numbers of a strip, as programs have them.
-use print::say;
+#![tactic(auto)]
 
-#[derive(Drop)]
+use print::say;
+use std::io;
+
+#[derive(Clone, Copy)]
 pub struct Answer {
     pub code: usize,
     pub number: usize,
@@ -12,11 +15,11 @@ pub struct Answer {
 }
 
 // A space between two. What it writes goes to standard output, and promises safety only.
-pub fn write(a: Answer) {
-    say(b"", a.code);
-    say(b" ", a.number);
-    say(b" ", a.id);
-    say(b" ", a.start);
-    say(b" ", a.end);
-    say(b" ", a.place);
+pub fn write(rt: &impl Print, a: Answer) -> io::Result<()> {
+    say(rt, b"", a.code)?;
+    say(rt, b" ", a.number)?;
+    say(rt, b" ", a.id)?;
+    say(rt, b" ", a.start)?;
+    say(rt, b" ", a.end)?;
+    say(rt, b" ", a.place)
 }

@@ -1,9 +1,23 @@
 // The words that a command was given, into rooms lent. What is too long for its room gets a message to standard output.
-ghost use Rattle.std.specs.Prelude.{◌≤◌, length};
+#![tactic(auto)]
 
-use libc::STDOUT_FILENO;
+ghost use Rattle.std.specs.Prelude.{◌≤◌, length, IfOk};
+
 use print::room::{ROOM, longer_than, use_library};
 use print::{say, tell};
+use std::env::{Env, FillError};
+use std::io;
+
+// How many words there are, the program's name among them.
+pub fn count(rt: &impl Env) -> usize {
+    for i in 0..usize::MAX {
+        match rt.arg(i, &mut []) {
+            Err(FillError::NotPresent) => return i,
+            _ => {}
+        }
+    }
+    usize::MAX
+}
 
 // A word of the command: the first `len` bytes of the room lent, none where it is missing.
 #[derive(Drop)]
@@ -13,21 +27,23 @@ pub struct Word {
 }
 
 // One that is longer than the room is not taken: cut short it would name another file.
-pub fn argument(i: usize, out: &mut [u8]) -> Word
-    ensures { result.len ≤ length out.new }
+pub fn argument(rt: &(impl Env + Print), i: usize, out: &mut [u8]) -> io::Result<Word>
+    ensures { IfOk result (λ word. word.len ≤ length out.new) }
 {
-    let len = os::arg(i, out);
-    if os::errno() == libc::ENAMETOOLONG {
-        say(b"argument ", i);
-        tell(b" is");
-        longer_than(STDOUT_FILENO, out.len(), b" bytes");
-        tell(b"\n");
-        return Word {
-            good: false,
-            len: 0,
-        };
+    match rt.arg(i, out) {
+        Ok(len) => Ok(Word { good: true, len }),
+        Err(FillError::NotPresent) => Ok(Word { good: true, len: 0 }),
+        Err(FillError::TooLong) => {
+            say(rt, b"argument ", i)?;
+            tell(rt, b" is")?;
+            longer_than(&mut io::writer(rt), out.len(), b" bytes")?;
+            tell(rt, b"\n")?;
+            Ok(Word {
+                good: false,
+                len: 0,
+            })
+        }
     }
-    Word { good: true, len }
 }
 
 // The names that were gathered: the first `len` bytes of a run, and the first `count` ends.
@@ -38,49 +54,55 @@ pub struct Names {
     pub count: usize,
 }
 
-fn too_long(count: usize) -> Names
-    ensures { (result.len ≤ 0) × (result.count ≤ 0) }
+fn too_long(rt: &impl Print, count: usize) -> io::Result<Names>
+    ensures { IfOk result (λ names. (names.len ≤ 0) × (names.count ≤ 0)) }
 {
     if count == 5 {
-        tell(b"NAME is");
+        tell(rt, b"NAME is")?;
     } else {
-        tell(b"the names together are");
+        tell(rt, b"the names together are")?;
     }
-    use_library(STDOUT_FILENO, ROOM, b" bytes");
-    tell(b"\n");
-    Names {
+    use_library(&mut io::writer(rt), ROOM, b" bytes")?;
+    tell(rt, b"\n")?;
+    Ok(Names {
         good: false,
         len: 0,
         count: 0,
-    }
+    })
 }
 
 // Of `count` arguments those after DICT and OBJECT, as far as there is room for their ends.
-pub fn gather(count: usize, run: &mut [u8], ends: &mut [u32]) -> Names
+pub fn gather(
+    rt: &(impl Env + Print),
+    count: usize,
+    run: &mut [u8],
+    ends: &mut [u32],
+) -> io::Result<Names>
     requires { length run.old ≤ ROOM }
-    ensures { (result.len ≤ length run.new) × (result.count ≤ length ends.new) }
+    ensures { IfOk result (λ names. (names.len ≤ length run.new) × (names.count ≤ length ends.new)) }
 {
     let mut at: usize = 0;
     let mut k: usize = 0;
     for i in 4..count {
         if k == ends.len() {
-            return Names {
+            return Ok(Names {
                 good: true,
                 len: at,
                 count: k,
-            };
+            });
         }
-        let n = os::arg(i, &mut run[at..]);
-        if os::errno() != 0 {
-            return too_long(count);
+        match rt.arg(i, &mut run[at..]) {
+            Err(_) => return too_long(rt, count),
+            Ok(n) => {
+                at += n;
+                ends[k] = at as u32;
+                k += 1;
+            }
         }
-        at += n;
-        ends[k] = at as u32;
-        k += 1;
     }
-    Names {
+    Ok(Names {
         good: true,
         len: at,
         count: k,
-    }
+    })
 }

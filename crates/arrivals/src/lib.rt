@@ -1,6 +1,8 @@
 // The answer to a path as the six words of a strip.
+#![tactic(auto)]
+
 ghost use Rattle.std.specs.Prelude.{◌≡◌};
-ghost use Rattle.parsing.specs.Answers.{refusal_number as pathNumber};
+ghost use Rattle.parsing.specs.Answers.{refusal_number as path_number};
 ghost use Rattle.strides.specs.Answers.{refusal_number, refusal_place, stride_numbers};
 ghost use Rattle.path.specs.Answers.{asked_numbers};
 ghost use Rattle.strip.specs.Shapes.{words_of, lookup_shape, refusal_words};
@@ -12,7 +14,7 @@ use strip::{Words, answer, refusal};
 
 // Refusals 70 to 76.
 fn of_path_refusal(r: parsing::Refusal) -> Words
-    ensures { list_of result ≡ refusal_words (pathNumber r) 0 }
+    ensures { list_of result ≡ refusal_words (path_number r) 0 }
 {
     match r {
         parsing::Refusal::NotUtf8 => refusal(70, 0),

@@ -1,5 +1,7 @@
 // The library's calls as programs make them: each asks through the strip, as a host does, and takes the six numbers out of it.
 // Those that fill room, too, are in `ask_into`.
+#![tactic(auto)]
+
 ghost use Rattle.std.specs.Prelude.{◌≡◌, ◌≤◌, length};
 ghost use Rattle.strip.specs.Shapes.{strip_bytes};
 ghost use Rattle.lichenhusk.specs.Strip.{lookup_words, layer_words, verdict_words, name_at_words, value_words, tree_words};

@@ -1,10 +1,12 @@
 // The library's calls that fill room beside the strip, as programs make them: see `ask`.
+#![tactic(auto)]
+
 ghost use Rattle.std.specs.Prelude.{◌≡◌, ◌≤◌, ◌<◌, length};
 ghost use Rattle.many.specs.Many.{rows_after};
 ghost use Rattle.listing.specs.Words.{words_after};
-ghost use Rattle.parsing.specs.Parsing.{answer, names_after, words_after as stepsAfter};
+ghost use Rattle.parsing.specs.Parsing.{answer, names_after, words_after as steps_after};
 ghost use Rattle.write.specs.Writing.{room_after};
-ghost use Rattle.write_object.specs.Writing.{room_after as objectAfter};
+ghost use Rattle.write_object.specs.Writing.{room_after as object_after};
 ghost use Rattle.lichenhusk.specs.Strip.{all_words, list_words, path_words, write_words, write_object_words};
 ghost use Rattle.answers.specs.Numbers.{numbers_of};
 
@@ -44,7 +46,7 @@ pub fn list(dict: &[u8], object: &[u8], words: &mut [u32]) -> Answer
 pub fn path(dict: &[u8], value: &[u8], path: &[u8], names: &mut [u8], words: &mut [u32]) -> Answer
     ensures result_value { length value.now < 4294967296 → length words.old ≤ 4294967296 → numbers_of result ≡ path_words dict.now value.now path.now names.old words.old }
     ensures names_after { names.new ≡ names_after (answer path.now names.old words.old) names.old }
-    ensures words_after { words.new ≡ stepsAfter (answer path.now names.old words.old) words.old }
+    ensures words_after { words.new ≡ steps_after (answer path.now names.old words.old) words.old }
 {
     let mut strip = [0u8; STRIP];
     lichenhusk::lichenhusk_path(dict, value, path, names, words, &mut strip);
@@ -77,7 +79,7 @@ pub fn write_object(
     room: &mut [u8],
 ) -> Answer
     ensures result_value { length pairs.now ≤ 4294967296 → numbers_of result ≡ write_object_words dict.now bytes.now pairs.now room.old }
-    ensures room_after { room.new ≡ objectAfter dict.now bytes.now pairs.now room.old }
+    ensures room_after { room.new ≡ object_after dict.now bytes.now pairs.now room.old }
 {
     let mut strip = [0u8; STRIP];
     lichenhusk::lichenhusk_write_object(dict, bytes, pairs, order, spare, room, &mut strip);

@@ -1,9 +1,11 @@
 // An object of the lines of a text, `NAME HEX` each, over a dictionary, or why there is none. Standard output is the object's alone, so why goes
-// to an open file that the caller names.
-ghost use Rattle.std.specs.Prelude.{◌≡◌, ◌≤◌, ◌<◌, length};
+// to a writer that the caller names.
+#![tactic(auto)]
+
+ghost use Rattle.std.specs.Prelude.{◌≡◌, ◌≤◌, ◌<◌, length, IfOk};
 ghost use Rattle.dictionary.specs.declared.Head.TheVariants as Head;
 ghost use Rattle.metadata.specs.Steps.{CheckedOf};
-ghost use Rattle.write_object.specs.Writing.{room_after as objectAfter};
+ghost use Rattle.write_object.specs.Writing.{room_after as object_after};
 ghost use Rattle.lichenhusk.specs.Strip.{write_object_words};
 ghost use Rattle.answers.specs.Numbers.{numbers_of};
 ghost use Rattle.assembled.specs.Assembled.{Assembled};
@@ -13,6 +15,8 @@ use dictionary::Header;
 use files::LENT;
 use print::room;
 use print::room::ROOM;
+use std::io;
+use std::io::{Read, Write};
 
 // Three words a pair, and a pair for every two bytes of a text.
 const WORDS: usize = 98_304;
@@ -24,7 +28,7 @@ fn word_room() -> [u32; WORDS] {
 // The object of pairs, with scratch for the most that there are.
 fn assemble(dict: &[u8], bytes: &[u8], pairs: &[u32], out: &mut [u8]) -> Answer
     ensures result_value { length pairs.now ≤ 4294967296 → numbers_of result ≡ write_object_words dict.now bytes.now pairs.now out.old }
-    ensures out_after { out.new ≡ objectAfter dict.now bytes.now pairs.now out.old }
+    ensures out_after { out.new ≡ object_after dict.now bytes.now pairs.now out.old }
 {
     let mut order = room::words();
     let mut spare = room::words();
@@ -32,53 +36,70 @@ fn assemble(dict: &[u8], bytes: &[u8], pairs: &[u32], out: &mut [u8]) -> Answer
 }
 
 // Of the lines of a text, and how many bytes it has: 0 where there is none, and why goes to `to`.
-fn of_lines(dict: &[u8], h: Header, text: &[u8], to: i32, out: &mut [u8]) -> usize
+fn of_lines(
+    dict: &[u8],
+    h: Header,
+    text: &[u8],
+    to: &mut impl Write,
+    out: &mut [u8],
+) -> io::Result<usize>
     requires checked_of { CheckedOf dict.now (Head.Good h) }
     requires text_len_bound { length text.now ≤ ROOM }
-    ensures assembled { 0 < result → Assembled dict.now text.now out.old result out.new }
-    ensures upper_bound { result ≤ length out.new }
+    ensures assembled { IfOk result (λ len. 0 < len → Assembled dict.now text.now out.old len out.new) }
+    ensures upper_bound { IfOk result (λ len. len ≤ length out.new) }
 {
     let mut bytes = room::bytes();
     let mut words = word_room();
     let pairs = pairing::gather(text, dict, h, &mut bytes, &mut words);
     if pairs.fault != 0 {
-        unwritten::pair(to, pairs.line, pairs.fault);
-        return 0;
+        unwritten::pair(to, pairs.line, pairs.fault)?;
+        return Ok(0);
     }
     let n = pairs.len;
     let k = pairs.count;
     let a = assemble(dict, &bytes[0..n], &words[0..k], out);
     if a.code != 0 {
-        unwritten::object(to, a.code, a.place, out.len());
-        return 0;
+        unwritten::object(to, a.code, a.place, out.len())?;
+        return Ok(0);
     }
-    a.end
+    Ok(a.end)
 }
 
 // Of what is read from `input`.
-fn of_input(dict: &[u8], h: Header, input: i32, to: i32, out: &mut [u8]) -> usize
+fn of_input(
+    dict: &[u8],
+    h: Header,
+    input: &mut impl Read,
+    to: &mut impl Write,
+    out: &mut [u8],
+) -> io::Result<usize>
     requires { CheckedOf dict.now (Head.Good h) }
-    ensures { result ≤ length out.new }
+    ensures { IfOk result (λ len. len ≤ length out.new) }
 {
     let mut lent = [0u8; LENT];
-    let text = files::input(input, to, &mut lent);
+    let text = files::input(input, to, &mut lent)?;
     if !text.good {
-        return 0;
+        return Ok(0);
     }
     let n = text.len;
     of_lines(dict, h, &lent[0..n], to, out)
 }
 
 // The same over any dictionary: one that is refused is told of before a line is read.
-pub fn from_input(dict: &[u8], input: i32, to: i32, out: &mut [u8]) -> usize
-    ensures { result ≤ length out.new }
+pub fn from_input(
+    dict: &[u8],
+    input: &mut impl Read,
+    to: &mut impl Write,
+    out: &mut [u8],
+) -> io::Result<usize>
+    ensures { IfOk result (λ len. len ≤ length out.new) }
 {
     let head = metadata::checked(dict);
     match head {
         dictionary::Head::Refused(_) => {
             let a = ask::dictionary(dict);
-            unwritten::object(to, a.code, a.place, out.len());
-            0
+            unwritten::object(to, a.code, a.place, out.len())?;
+            Ok(0)
         }
         dictionary::Head::Good(h) => of_input(dict, h, input, to, out),
     }

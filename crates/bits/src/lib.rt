@@ -1,6 +1,8 @@
 // A value's answer as the six words of a strip: its kind, and its 64 bits in two words.
+#![tactic(auto)]
+
 ghost use Rattle.std.specs.Prelude.{◌≡◌, [], ◌∷◌};
-ghost use Rattle.number.specs.Signed.{extended as extendedOf};
+ghost use Rattle.number.specs.Signed.{extended as extended_of};
 ghost use Rattle.value.specs.declared.Value.TheVariants.{Bool as Truth};
 ghost use Rattle.value.specs.Answers.{in_two, value_numbers, Numeral};
 ghost use Rattle.strip.specs.Shapes.{words_of, value_shape};
@@ -11,7 +13,7 @@ use value::Value;
 
 // A signed number's bits: from the last of the range down, where it is below zero.
 fn extended(z: i64) -> u64
-    ensures { result ≡ extendedOf z }
+    ensures { result ≡ extended_of z }
 {
     if z < 0 {
         return 0xFFFF_FFFF_FFFF_FFFF - (-1 - z) as u64;

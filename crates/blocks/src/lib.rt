@@ -1,4 +1,6 @@
 // Bytes judged with the three before them, many at once.
+#![tactic(auto)]
+
 ghost use Rattle.std.specs.Prelude.{◌≡◌, true, false, ◌+◌, ◌≤◌, length};
 ghost use Rattle.plain.specs.Steps.{AtMost};
 ghost use Rattle.blocks.specs.Steps.{wrong_of, Rights};

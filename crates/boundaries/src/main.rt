@@ -4,9 +4,13 @@
 //
 // The list has one mark a case, 100 to a line, and the cases are counted as the script counts them; it says which they are. So a case's
 // number, taken apart, is its bytes. The mark is a digit, the length of the longest text; or a letter, `a` for 0, where it is cut there.
+#![tactic(auto)]
+
 ghost use Rattle.std.specs.Prelude.{◌≤◌, ◌<◌, length};
 
 use print::{say, tell, write_hex};
+use std::io;
+use std::io::Read;
 
 // How many cases there are of each kind: of 1 and 2 bytes, and of 3 and 4 boundary bytes.
 const ONES: usize = 256;
@@ -226,44 +230,45 @@ fn run(list: &[u8]) -> Tally
     }
 }
 
-fn report(list: &[u8], t: Tally)
+fn report(rt: &impl Print, list: &[u8], t: Tally) -> io::Result<()>
     requires { t.first < 225224 }
 {
-    say(b"", t.compared);
-    say(b" cases compared, ", t.differ);
-    tell(b" differ\n");
+    say(rt, b"", t.compared)?;
+    say(rt, b" cases compared, ", t.differ)?;
+    tell(rt, b" differ\n")?;
     if t.differ == 0 {
-        return;
+        return Ok(());
     }
     let number = t.first;
     let case = case_of(number);
     let bytes = case.bytes;
     let len = case.len;
-    tell(b"the first is");
-    write_hex(&bytes[0..len]);
-    tell(b" with ");
-    tell(&[answer(number)]);
-    tell(b" found and ");
-    tell(&[listed(list, number)]);
-    tell(b" listed\n");
+    tell(rt, b"the first is")?;
+    write_hex(rt, &bytes[0..len])?;
+    tell(rt, b" with ")?;
+    tell(rt, &[answer(number)])?;
+    tell(rt, b" found and ")?;
+    tell(rt, &[listed(list, number)])?;
+    tell(rt, b" listed\n")
 }
 
-fn main() {
-    let path = b"answers";
-    let fd = os::open_read(path);
-    if fd < 0 {
-        os::fail(path);
-        return;
-    }
+// Compares with the list that a file has.
+fn compare(rt: &impl Print, file: &mut impl Read) -> io::Result<()> {
     // more room than the list needs, so that a longer one is noticed
     let mut text = [0u8; 262144];
-    let n = io::read_full(fd, &mut text);
-    libc::close(fd);
+    let n = files::read(file, &mut text)?;
     if n != LIST {
-        say(b"", n);
-        tell(b" bytes are not a whole list\n");
-        return;
+        say(rt, b"", n)?;
+        return tell(rt, b" bytes are not a whole list\n");
     }
     let list = &text[0..n];
-    report(list, run(list));
+    report(rt, list, run(list))
+}
+
+fn main(rt: HostRuntime) -> io::Result<()> {
+    let path = b"answers";
+    match files::open(&rt, path) {
+        Ok(mut file) => compare(&rt, &mut file),
+        Err(error) => files::fail(&rt, path, &error),
+    }
 }

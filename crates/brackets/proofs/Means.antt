@@ -175,7 +175,7 @@ begun (further {t = t} {n = n} {b = b} r d) =
 decimal_more : {p : List ℕ} {m : ℕ} → Decimal p m → (t : List ℕ) (n : ℕ) → digits m t ≡ is n → Decimal (p ++ t) n
 unfolding digits
 decimal_more {p = p} {m = m} d [] n e = let z : m ≡ n = cc in rw (append-nil p, ← z) d
-decimal_more {p = p} {m = m} d (b ∷ t) n e = go (leb 48 b && leb b 57) refl e (λ h. decimal_more (further d h) t n)
+decimal_more {p = p} {m = m} d (b ∷ t) n e = go (leb 48 b && leb b 57) refl e (λ h. decimal_more {p = p ++ b ∷ []} {m = 10 * m + (b - 48)} (further d h) t n)
   where
     go : (u : Bool) → (leb 48 b && leb b 57) ≡ u → cond u (digits (10 * m + (b - 48)) t) none ≡ is n
         → (Digit b → digits (10 * m + (b - 48)) t ≡ is n → Decimal ((p ++ b ∷ []) ++ t) n) → Decimal (p ++ b ∷ t) n

@@ -1,4 +1,6 @@
 // What stands between the brackets of a path, as the Rust's parse_in_bracket reads it (utils.rs).
+#![tactic(auto)]
+
 ghost use Rattle.std.specs.Prelude.{◌≡◌, false, ◌+◌, ◌≤◌, ◌<◌, length, drop};
 ghost use Rattle.brackets.specs.Brackets.{content, small, digits, some_digits, number, in_quotes};
 ghost use Rattle.brackets.specs.Steps.{PieceOf, LookOf, AfterPlus, number_of};
@@ -33,7 +35,7 @@ pub fn unit_at(path: &[u8], at: usize) -> Piece
 }
 
 // A pass over the brackets: how many bytes they take with the closing one (0 where none closes), how many they hold, the last of those.
-#[derive(Drop)]
+#[derive(Clone, Copy)]
 pub struct Look {
     pub size: usize,
     pub count: usize,

@@ -1,11 +1,16 @@
 // A question on a line, and its answer:
 //
 //     dictionary D     name D N     layer D O     lookup D O NAME     list D O ROOM     all D O RUN ROOM END ..     value V     tree D V
-//     path D V PATH     write RUN ROOM END ..     write-object D BYTES ROOM WORD ..
+//     path D V PATH     write RUN ROOM END ..     write-object D BYTES ROOM WORD ..     pieces ROOM PIECE ..
 //
-// D, O, NAME, RUN, V, PATH and BYTES are bytes in hex, `-` for none; N is an entry's number, ROOM how many words the answer may fill, of what is
-// written how many bytes. RUN is names, one after another, to be looked up or written, and after ROOM comes where each ends; of an object come
-// the words of its pairs, id, start and end in BYTES.
+// D, O, NAME, RUN, V, PATH, BYTES and PIECE are bytes in hex, `-` for none; N is an entry's number, ROOM how many words the answer may fill, of
+// what is written how many bytes, and of what comes in pieces how many bytes the store has. RUN is names, one after another, to be looked up or
+// written, and after ROOM comes where each ends; of an object come the words of its pairs, id, start and end in BYTES. Of pieces the answer is the
+// one to the last.
+#![tactic(auto)]
+
+mod fed;
+
 use answers::Answer;
 use ask_into::STEPS;
 use operands::faults::{NO_ROOM, UNKNOWN};
@@ -30,9 +35,9 @@ fn verb_of(line: &[u8]) -> Verb {
     let w = word(line, 0);
     let a = w.start;
     let e = w.end;
-    let verbs = b"dictionary name layer lookup list all value tree path write write-object";
+    let verbs = b"dictionary name layer lookup list all value tree path write write-object pieces";
     Verb {
-        kind: which(verbs, 11, &line[a..e]),
+        kind: which(verbs, 12, &line[a..e]),
         next: e,
     }
 }
@@ -200,6 +205,9 @@ pub fn answer(
         return Outcome::NoCase(UNKNOWN);
     }
     let kind = verb.kind;
+    if kind == 12 {
+        return fed::pieces(line, verb.next, one, two);
+    }
     let read = operands::read(
         line,
         verb.next,

@@ -1,4 +1,6 @@
 // Characters of UTF-8 by RFC 3629: the one that starts at a place, and whether what is left is the beginning of one.
+#![tactic(auto)]
+
 ghost use Rattle.std.specs.Prelude.{◌≡◌, drop};
 ghost use Rattle.chars.specs.Rfc3629.{tails_of};
 ghost use Rattle.chars.specs.Promises.{CharAtPromise, BeginsAtPromise};

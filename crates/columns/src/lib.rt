@@ -1,4 +1,6 @@
 // The checks of an object layer's fields by their numbers alone, ids and offsets, field by field: 25 to 28 (object.rs: VariantObject).
+#![tactic(auto)]
+
 ghost use Rattle.std.specs.Prelude.{◌≡◌};
 ghost use Rattle.rules.specs.Rules.{first, each, Says};
 ghost use Rattle.rules.specs.Rules.Test.{◌≤?◌};

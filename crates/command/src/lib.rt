@@ -1,81 +1,123 @@
 // The command `variant`: what it does with its arguments. The programs over it are variant and, for tests, variant_runs.
+#![tactic(auto)]
+
 mod batch;
 
 use arguments::argument;
 use files::LENT;
-use libc::{STDERR_FILENO, STDIN_FILENO, STDOUT_FILENO};
 use operands::which;
 use print::{room, tell, tell_to, write_hex};
+use std::env::Env;
+use std::io;
+use std::io::Write;
+use std::rt::Files;
 use text::Numeral;
 
+// The bytes of the longest path, with the one that ends it.
+const PATH: usize = 4096;
+
 // Document 01's D and P: what they hold, and three names looked up.
-fn show() {
+fn show(rt: &impl Print) -> io::Result<()> {
     let d = b"\x11\x02\x00\x04\x08flowroll";
     let p = b"\x02\x02\x00\x01\x01\x00\x03\x04\x0C\xFB";
-    tell(b"the dictionary");
-    write_hex(d);
-    tell(b"\n");
-    sentences::check_dictionary(d);
-    tell(b"the object");
-    write_hex(p);
-    tell(b"\n");
-    described::list(d, p);
-    show_found(d, p, b"flow");
-    show_found(d, p, b"roll");
-    show_found(d, p, b"rol");
+    tell(rt, b"the dictionary")?;
+    write_hex(rt, d)?;
+    tell(rt, b"\n")?;
+    sentences::check_dictionary(rt, d)?;
+    tell(rt, b"the object")?;
+    write_hex(rt, p)?;
+    tell(rt, b"\n")?;
+    described::list(rt, d, p)?;
+    show_found(rt, d, p, b"flow")?;
+    show_found(rt, d, p, b"roll")?;
+    show_found(rt, d, p, b"rol")
 }
 
-fn show_found(dict: &[u8], object: &[u8], name: &[u8]) {
-    sentences::sought(name);
-    sentences::find(dict, object, name);
+fn show_found(rt: &impl Print, dict: &[u8], object: &[u8], name: &[u8]) -> io::Result<()> {
+    sentences::sought(rt, name)?;
+    sentences::find(rt, dict, object, name)
 }
 
-fn usage() {
-    tell(b"usage: variant                          an example\n");
-    tell(b"       variant check DICT [OBJECT]      are the bytes of these files accepted?\n");
-    tell(b"       variant name DICT N              the name of entry N\n");
-    tell(b"       variant find DICT OBJECT NAME..  the fields of these names\n");
-    tell(b"       variant get DICT VALUE PATH      what stands at a path such as site.meter[2]\n");
-    tell(b"       variant list DICT OBJECT         all fields\n");
+fn usage(rt: &impl Print) -> io::Result<()> {
+    tell(rt, b"usage: variant                          an example\n")?;
     tell(
+        rt,
+        b"       variant check DICT [OBJECT]      are the bytes of these files accepted?\n",
+    )?;
+    tell(
+        rt,
+        b"       variant check -                  is the dictionary accepted that comes in pieces on standard input?\n",
+    )?;
+    tell(
+        rt,
+        b"       variant name DICT N              the name of entry N\n",
+    )?;
+    tell(
+        rt,
+        b"       variant find DICT OBJECT NAME..  the fields of these names\n",
+    )?;
+    tell(
+        rt,
+        b"       variant get DICT VALUE PATH      what stands at a path such as site.meter[2]\n",
+    )?;
+    tell(rt, b"       variant list DICT OBJECT         all fields\n")?;
+    tell(
+        rt,
         b"       variant tree DICT VALUE          is a value accepted, with all that is inside it?\n",
-    );
+    )?;
+    usage_of_input(rt)
+}
+
+// The commands that are given all that they read on standard input, or all but a dictionary.
+fn usage_of_input(rt: &impl Print) -> io::Result<()> {
     tell(
+        rt,
         b"       variant write-dictionary         the dictionary of the names on standard input, a line each\n",
-    );
+    )?;
     tell(
+        rt,
         b"       variant write-object DICT        the object of the lines NAME HEX on standard input, a child each\n",
-    );
-    tell(b"       variant batch                    answers to the lines of standard input\n");
+    )?;
+    tell(
+        rt,
+        b"       variant batch                    answers to the lines of standard input\n",
+    )
 }
 
-fn check(path: &[u8]) {
+// The dictionary of a file; `-` is standard input, of which no piece is read after the one that settles the verdict.
+fn check(rt: &(impl Files + Input + Print), path: &[u8]) -> io::Result<()> {
+    if check::same(path, b"-") {
+        received::check(rt, &mut rt.reader())
+    } else {
+        check_file(rt, path)
+    }
+}
+
+fn check_file(rt: &(impl Files + Print), path: &[u8]) -> io::Result<()> {
     let mut room = [0u8; LENT];
-    let dict = files::load(path, &mut room);
+    let dict = files::load(rt, path, &mut room)?;
     if !dict.good {
-        return;
+        return Ok(());
     }
     let n = dict.len;
-    sentences::check_dictionary(&room[0..n]);
+    sentences::check_dictionary(rt, &room[0..n])
 }
 
-fn name_of(path: &[u8], entry: usize) {
+fn name_of(rt: &(impl Files + Print), path: &[u8], entry: usize) -> io::Result<()> {
     let mut room = [0u8; LENT];
-    let dict = files::load(path, &mut room);
+    let dict = files::load(rt, path, &mut room)?;
     if !dict.good {
-        return;
+        return Ok(());
     }
     let n = dict.len;
-    sentences::name(&room[0..n], entry);
+    sentences::name(rt, &room[0..n], entry)
 }
 
-fn name(path: &[u8], entry: &[u8]) {
+fn name(rt: &(impl Files + Print), path: &[u8], entry: &[u8]) -> io::Result<()> {
     let number = text::number(entry);
     match number {
-        Numeral::Of(i) => name_of(path, i),
-        Numeral::No => {
-            tell(b"N is not a number below 4294967296\n");
-        }
+        Numeral::Of(i) => name_of(rt, path, i),
+        Numeral::No => tell(rt, b"N is not a number below 4294967296\n"),
     }
 }
 
@@ -90,183 +132,258 @@ enum Wish {
 }
 
 // One name's answer stands alone; of several, each comes after its name.
-fn find_in(dict: &[u8], object: &[u8], names: &[u8], ends: &[u32]) {
+fn find_in(
+    rt: &impl Print,
+    dict: &[u8],
+    object: &[u8],
+    names: &[u8],
+    ends: &[u32],
+) -> io::Result<()> {
     if ends.len() == 1 {
-        sentences::find(dict, object, names);
+        sentences::find(rt, dict, object, names)
     } else {
-        sentences::find_all(dict, object, names, ends);
+        sentences::find_all(rt, dict, object, names, ends)
     }
 }
 
-fn answer(wish: Wish, dict: &[u8], object: &[u8], names: &[u8], ends: &[u32]) {
+fn answer(
+    rt: &impl Print,
+    wish: Wish,
+    dict: &[u8],
+    object: &[u8],
+    names: &[u8],
+    ends: &[u32],
+) -> io::Result<()> {
     match wish {
-        Wish::Check => described::check_object(dict, object),
-        Wish::List => described::list(dict, object),
-        Wish::Find => find_in(dict, object, names, ends),
-        Wish::Get => reached::get(dict, object, names),
-        Wish::Tree => sentences::check_tree(dict, object),
+        Wish::Check => described::check_object(rt, dict, object),
+        Wish::List => described::list(rt, dict, object),
+        Wish::Find => find_in(rt, dict, object, names, ends),
+        Wish::Get => reached::get(rt, dict, object, names),
+        Wish::Tree => sentences::check_tree(rt, dict, object),
     }
 }
 
-fn with_both(wish: Wish, path: &[u8], object_path: &[u8], names: &[u8], ends: &[u32]) {
+fn with_both(
+    rt: &(impl Files + Print),
+    wish: Wish,
+    path: &[u8],
+    object_path: &[u8],
+    names: &[u8],
+    ends: &[u32],
+) -> io::Result<()> {
     let mut dict_room = [0u8; LENT];
-    let dict = files::load(path, &mut dict_room);
+    let dict = files::load(rt, path, &mut dict_room)?;
     if !dict.good {
-        return;
+        return Ok(());
     }
     let mut object_room = [0u8; LENT];
-    let object = files::load(object_path, &mut object_room);
+    let object = files::load(rt, object_path, &mut object_room)?;
     if !object.good {
-        return;
+        return Ok(());
     }
     let n = dict.len;
     let m = object.len;
-    answer(wish, &dict_room[0..n], &object_room[0..m], names, ends);
+    answer(rt, wish, &dict_room[0..n], &object_room[0..m], names, ends)
 }
 
 // The names of a run of bytes, `ends` where each ends, in two files.
-pub fn find(path: &[u8], object_path: &[u8], names: &[u8], ends: &[u32]) {
+pub fn find(
+    rt: &(impl Files + Print),
+    path: &[u8],
+    object_path: &[u8],
+    names: &[u8],
+    ends: &[u32],
+) -> io::Result<()> {
     if 64 < ends.len() {
-        tell(b"more than 64 names\n");
-        return;
+        return tell(rt, b"more than 64 names\n");
     }
-    with_both(Wish::Find, path, object_path, names, ends);
+    with_both(rt, Wish::Find, path, object_path, names, ends)
 }
 
 // What stands at a path of steps, in two files.
-pub fn get(path: &[u8], value_path: &[u8], steps: &[u8]) {
-    with_both(Wish::Get, path, value_path, steps, &[0; 0]);
+pub fn get(
+    rt: &(impl Files + Print),
+    path: &[u8],
+    value_path: &[u8],
+    steps: &[u8],
+) -> io::Result<()> {
+    with_both(rt, Wish::Get, path, value_path, steps, &[0; 0])
 }
 
 // What is written is all that goes to standard output.
-fn send(bytes: &[u8], or_else: &[u8]) {
-    if !io::write_all(STDOUT_FILENO, bytes) {
-        tell_to(STDERR_FILENO, or_else);
+fn send(rt: &impl Print, errors: &mut impl Write, bytes: &[u8], or_else: &[u8]) -> io::Result<()> {
+    match tell(rt, bytes) {
+        Ok(()) => Ok(()),
+        Err(_) => tell_to(errors, or_else),
     }
 }
 
-fn write_dictionary() {
+// Why nothing is written goes to standard error, `errors`.
+fn write_dictionary(rt: &(impl Input + Print), errors: &mut impl Write) -> io::Result<()> {
     let mut room = room::bytes();
-    let n = composed::from_input(STDIN_FILENO, STDERR_FILENO, &mut room);
-    send(&room[0..n], b"cannot write the dictionary\n");
+    let n = composed::from_input(&mut rt.reader(), errors, &mut room)?;
+    send(rt, errors, &room[0..n], b"cannot write the dictionary\n")
 }
 
 // The object of lines over the dictionary of a file.
-fn write_object(path: &[u8]) {
+fn write_object(
+    rt: &(impl Files + Input + Print),
+    errors: &mut impl Write,
+    path: &[u8],
+) -> io::Result<()> {
     let mut lent = [0u8; LENT];
-    let dict = files::load_to(STDERR_FILENO, path, &mut lent);
+    let dict = files::load_to(rt, errors, path, &mut lent)?;
     if !dict.good {
-        return;
+        return Ok(());
     }
     let n = dict.len;
     let mut room = room::bytes();
-    let m = assembled::from_input(&lent[0..n], STDIN_FILENO, STDERR_FILENO, &mut room);
-    send(&room[0..m], b"cannot write the object\n");
+    let m = assembled::from_input(&lent[0..n], &mut rt.reader(), errors, &mut room)?;
+    send(rt, errors, &room[0..m], b"cannot write the object\n")
 }
 
 // The commands of two words, of three and of four, by the number of the verb; `variant` is among the words.
-fn of_input(kind: usize) {
+fn of_input(rt: &(impl Input + Print), errors: &mut impl Write, kind: usize) -> io::Result<()> {
     match kind {
-        1 => batch::run(),
-        2 => write_dictionary(),
-        _ => usage(),
+        1 => batch::run(rt),
+        2 => write_dictionary(rt, errors),
+        _ => usage(rt),
     }
 }
 
-fn of_file(kind: usize, path: &[u8]) {
+fn of_file(
+    rt: &(impl Files + Input + Print),
+    errors: &mut impl Write,
+    kind: usize,
+    path: &[u8],
+) -> io::Result<()> {
     match kind {
-        3 => check(path),
-        7 => write_object(path),
-        _ => usage(),
+        3 => check(rt, path),
+        7 => write_object(rt, errors, path),
+        _ => usage(rt),
     }
 }
 
-fn of_files(kind: usize, one: &[u8], two: &[u8]) {
+fn of_files(rt: &(impl Files + Print), kind: usize, one: &[u8], two: &[u8]) -> io::Result<()> {
     match kind {
-        3 => with_both(Wish::Check, one, two, b"", &[0; 0]),
-        4 => name(one, two),
-        5 => with_both(Wish::List, one, two, b"", &[0; 0]),
-        6 => with_both(Wish::Tree, one, two, b"", &[0; 0]),
-        _ => usage(),
+        3 => with_both(rt, Wish::Check, one, two, b"", &[0; 0]),
+        4 => name(rt, one, two),
+        5 => with_both(rt, Wish::List, one, two, b"", &[0; 0]),
+        6 => with_both(rt, Wish::Tree, one, two, b"", &[0; 0]),
+        _ => usage(rt),
     }
 }
 
 // A command of `count` words; the words that are not there are empty. Those of more are `find` and `get`.
-pub fn act(count: usize, verb: &[u8], one: &[u8], two: &[u8]) {
+pub fn act(
+    rt: &(impl Files + Input + Print),
+    errors: &mut impl Write,
+    count: usize,
+    verb: &[u8],
+    one: &[u8],
+    two: &[u8],
+) -> io::Result<()> {
     let kind = which(
         b"batch write-dictionary check name list tree write-object",
         7,
         verb,
     );
     match count {
-        2 => of_input(kind),
-        3 => of_file(kind, one),
-        4 => of_files(kind, one, two),
-        _ => usage(),
+        2 => of_input(rt, errors, kind),
+        3 => of_file(rt, errors, kind, one),
+        4 => of_files(rt, kind, one, two),
+        _ => usage(rt),
     }
 }
 
 // There is room for one end more than are taken, so that too many are seen.
-fn find_arguments(count: usize, path: &[u8], object_path: &[u8]) {
+fn find_arguments(
+    rt: &(impl Env + Files + Print),
+    count: usize,
+    path: &[u8],
+    object_path: &[u8],
+) -> io::Result<()> {
     let mut run = room::bytes();
     let mut ends = [0u32; 65];
-    let names = arguments::gather(count, &mut run, &mut ends);
+    let names = arguments::gather(rt, count, &mut run, &mut ends)?;
     if !names.good {
-        return;
+        return Ok(());
     }
     let n = names.len;
     let k = names.count;
-    find(path, object_path, &run[0..n], &ends[0..k]);
+    find(rt, path, object_path, &run[0..n], &ends[0..k])
 }
 
-fn get_argument(path: &[u8], value_path: &[u8]) {
+fn get_argument(rt: &(impl Env + Files + Print), path: &[u8], value_path: &[u8]) -> io::Result<()> {
     let mut room = room::bytes();
-    let steps = argument(4, &mut room);
+    let steps = argument(rt, 4, &mut room)?;
     if !steps.good {
-        return;
+        return Ok(());
     }
     let n = steps.len;
-    get(path, value_path, &room[0..n]);
+    get(rt, path, value_path, &room[0..n])
 }
 
 // The command of `count` words: the first three beside its name, and the others where they are.
-fn of_words(count: usize, verb: &[u8], one: &[u8], two: &[u8]) {
+fn of_words(
+    rt: &(impl Env + Files + Input + Print),
+    errors: &mut impl Write,
+    count: usize,
+    verb: &[u8],
+    one: &[u8],
+    two: &[u8],
+) -> io::Result<()> {
     if 5 <= count && check::same(verb, b"find") {
-        find_arguments(count, one, two);
+        find_arguments(rt, count, one, two)
     } else if count == 5 && check::same(verb, b"get") {
-        get_argument(one, two);
+        get_argument(rt, one, two)
     } else {
-        act(count, verb, one, two);
+        act(rt, errors, count, verb, one, two)
     }
 }
 
 // These three have room for the longest path.
-fn run_words(count: usize) {
-    let mut verb_room = io::buffer();
-    let mut one_room = io::buffer();
-    let mut two_room = io::buffer();
-    let verb = argument(1, &mut verb_room);
-    let one = argument(2, &mut one_room);
-    let two = argument(3, &mut two_room);
+fn run_words(
+    rt: &(impl Env + Files + Input + Print),
+    errors: &mut impl Write,
+    count: usize,
+) -> io::Result<()> {
+    let mut verb_room = [0u8; PATH];
+    let mut one_room = [0u8; PATH];
+    let mut two_room = [0u8; PATH];
+    let verb = argument(rt, 1, &mut verb_room)?;
+    let one = argument(rt, 2, &mut one_room)?;
+    let two = argument(rt, 3, &mut two_room)?;
     if !(verb.good && one.good && two.good) {
-        return;
+        return Ok(());
     }
     let v = verb.len;
     let a = one.len;
     let b = two.len;
-    of_words(count, &verb_room[0..v], &one_room[0..a], &two_room[0..b]);
+    of_words(
+        rt,
+        errors,
+        count,
+        &verb_room[0..v],
+        &one_room[0..a],
+        &two_room[0..b],
+    )
 }
 
 // The command of the first `count` of the program's arguments, its name among them.
-pub fn run_first(count: usize) {
+pub fn run_first(
+    rt: &(impl Env + Files + Input + Print),
+    errors: &mut impl Write,
+    count: usize,
+) -> io::Result<()> {
     if count < 2 {
-        show();
+        show(rt)
     } else {
-        run_words(count);
+        run_words(rt, errors, count)
     }
 }
 
-// The command of the program's own arguments.
-pub fn run() {
-    run_first(os::arg_count());
+// The command of the program's own arguments. What it says of lines that it writes nothing of goes to `errors`, which is standard error.
+pub fn run(rt: &(impl Env + Files + Input + Print), errors: &mut impl Write) -> io::Result<()> {
+    run_first(rt, errors, arguments::count(rt))
 }

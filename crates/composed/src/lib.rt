@@ -1,6 +1,8 @@
-// A dictionary of the lines of a text, or why there is none. Standard output is the dictionary's alone, so why goes to an open file that the
-// caller names.
-ghost use Rattle.std.specs.Prelude.{◌≡◌, ◌≤◌, length};
+// A dictionary of the lines of a text, or why there is none. Standard output is the dictionary's alone, so why goes to a writer that the caller
+// names.
+#![tactic(auto)]
+
+ghost use Rattle.std.specs.Prelude.{◌≡◌, ◌≤◌, length, IfOk};
 ghost use Rattle.write.specs.Writing.{room_after};
 ghost use Rattle.lichenhusk.specs.Strip.{write_words};
 ghost use Rattle.lay.specs.Bytes.{joined};
@@ -10,6 +12,8 @@ ghost use Rattle.answers.specs.Numbers.{numbers_of};
 use answers::Answer;
 use files::LENT;
 use print::room::ROOM;
+use std::io;
+use std::io::{Read, Write};
 
 // The dictionary of a text's lines, to the front of `out`.
 fn compose(text: &[u8], out: &mut [u8]) -> Answer
@@ -28,19 +32,19 @@ fn compose(text: &[u8], out: &mut [u8]) -> Answer
 }
 
 // Of what is read from `input`, and how many bytes it has: 0 where there is none, and why goes to `to`.
-pub fn from_input(input: i32, to: i32, out: &mut [u8]) -> usize
-    ensures { result ≤ length out.new }
+pub fn from_input(input: &mut impl Read, to: &mut impl Write, out: &mut [u8]) -> io::Result<usize>
+    ensures { IfOk result (λ len. len ≤ length out.new) }
 {
     let mut room = [0u8; LENT];
-    let text = files::input(input, to, &mut room);
+    let text = files::input(input, to, &mut room)?;
     if !text.good {
-        return 0;
+        return Ok(0);
     }
     let n = text.len;
     let a = compose(&room[0..n], out);
     if a.code != 0 {
-        unwritten::dictionary(to, a.code, a.place, out.len());
-        return 0;
+        unwritten::dictionary(to, a.code, a.place, out.len())?;
+        return Ok(0);
     }
-    a.end
+    Ok(a.end)
 }

@@ -3,6 +3,8 @@
 //
 // A float is m * 2^e. All that reads back as it lies between the middles to its neighbours, (4m - 2) * 2^(e - 2), or (4m - 1) * 2^(e - 2)
 // where the one below is nearer, and (4m + 2) * 2^(e - 2). Where e - 2 is below zero, 2^(e - 2) is as many decimals of a power of five.
+#![tactic(auto)]
+
 ghost use Rattle.std.specs.Prelude.{◌≤◌};
 
 mod digits;
@@ -10,6 +12,7 @@ mod shortest;
 
 use digits::{PLACES, end_of, first_of, put, raise};
 use print::{say, tell};
+use std::io;
 use width::wide;
 
 // How the bits of a float say its number: the bit that stands before the fraction, the exponent of infinity and of what is no number, and
@@ -21,44 +24,58 @@ struct Shape {
     quarter: usize,
 }
 
-fn write_places(digits: &[u8; PLACES], from: usize, to: usize)
+fn write_places(rt: &impl Print, digits: &[u8; PLACES], from: usize, to: usize) -> io::Result<()>
     requires { to ≤ 800 }
 {
     for i in from..to {
-        say(b"", wide(digits[i]));
+        say(rt, b"", wide(digits[i]))?;
     }
+    Ok(())
 }
 
 // Digits with the point before place `point`.
-fn write_plain(digits: &[u8; PLACES], first: usize, point: usize, end: usize)
+fn write_plain(
+    rt: &impl Print,
+    digits: &[u8; PLACES],
+    first: usize,
+    point: usize,
+    end: usize,
+) -> io::Result<()>
     requires { (point ≤ 800) × (end ≤ 800) }
 {
     if first < point {
-        write_places(digits, first, point);
+        write_places(rt, digits, first, point)?;
     } else {
-        tell(b"0");
+        tell(rt, b"0")?;
     }
     if point < end {
-        tell(b".");
-        write_places(digits, point, end);
+        tell(rt, b".")?;
+        write_places(rt, digits, point, end)?;
     }
+    Ok(())
 }
 
 // One digit before the point, and the exponent.
-fn write_exponent(digits: &[u8; PLACES], first: usize, end: usize, decimals: usize)
+fn write_exponent(
+    rt: &impl Print,
+    digits: &[u8; PLACES],
+    first: usize,
+    end: usize,
+    decimals: usize,
+) -> io::Result<()>
     requires { (first ≤ 799) × (end ≤ 800) × (decimals ≤ 2047) }
 {
     let second = first + 1;
-    write_places(digits, first, second);
+    write_places(rt, digits, first, second)?;
     if second < end {
-        tell(b".");
-        write_places(digits, second, end);
+        tell(rt, b".")?;
+        write_places(rt, digits, second, end)?;
     }
     let whole = PLACES - first;
     if decimals < whole {
-        say(b"e", whole - 1 - decimals);
+        say(rt, b"e", whole - 1 - decimals)
     } else {
-        say(b"e-", 1 + decimals - whole);
+        say(rt, b"e-", 1 + decimals - whole)
     }
 }
 
@@ -73,24 +90,24 @@ fn point_of(decimals: usize) -> usize
 }
 
 // A number whose last so many digits are decimals: from 0.0001 to below 10^16 plainly, any other with its exponent, as Rust's `{:?}` does.
-fn write_number(digits: &[u8; PLACES], decimals: usize)
+fn write_number(rt: &impl Print, digits: &[u8; PLACES], decimals: usize) -> io::Result<()>
     requires { decimals ≤ 2047 }
 {
     let first = first_of(digits);
     let end = end_of(digits);
     if first == PLACES {
-        return;
+        return Ok(());
     }
     let whole = PLACES - first;
     if decimals + 16 < whole || whole + 3 < decimals {
-        write_exponent(digits, first, end, decimals);
+        write_exponent(rt, digits, first, end, decimals)
     } else {
-        write_plain(digits, first, point_of(decimals), end);
+        write_plain(rt, digits, first, point_of(decimals), end)
     }
 }
 
 // A power of two, or of five with as many decimals.
-#[derive(Drop)]
+#[derive(Clone, Copy)]
 struct Scale {
     five: bool,
     by: usize,
@@ -137,7 +154,7 @@ fn below(narrow: bool) -> usize
 }
 
 // m of the last bit. An even one is read back from the middles too.
-fn write_finite(m: usize, narrow: bool, s: Scale)
+fn write_finite(rt: &impl Print, m: usize, narrow: bool, s: Scale) -> io::Result<()>
     requires { (1 ≤ m) × (m ≤ 9007199254740991) × (s.by ≤ 2047) }
 {
     let mut low = [0u8; PLACES];
@@ -148,38 +165,44 @@ fn write_finite(m: usize, narrow: bool, s: Scale)
     scaled(&mut exact, 4 * m, s);
     scaled(&mut high, 4 * m + 2, s);
     shortest::find(&low, &exact, &high, m % 2 == 0, &mut out);
-    write_number(&out, decimals_of(s));
+    write_number(rt, &out, decimals_of(s))
 }
 
 // The exponent 0 has no bit before the fraction, and is the 1 otherwise.
-fn write_float(negative: bool, exponent: usize, fraction: usize, shape: Shape)
+fn write_float(
+    rt: &impl Print,
+    negative: bool,
+    exponent: usize,
+    fraction: usize,
+    shape: Shape,
+) -> io::Result<()>
     requires { (exponent ≤ 2047) × (fraction ≤ 4503599627370495) × (1 ≤ shape.unit) × (shape.unit ≤ 4503599627370496) × (shape.quarter ≤ 2047) }
 {
     if exponent == shape.last && 0 < fraction {
-        tell(b"not a number");
-        return;
+        return tell(rt, b"not a number");
     }
     if negative {
-        tell(b"-");
+        tell(rt, b"-")?;
     }
     if exponent == shape.last {
-        tell(b"infinity");
+        tell(rt, b"infinity")
     } else if 0 < exponent {
         let narrow = fraction == 0 && 1 < exponent;
         write_finite(
+            rt,
             shape.unit + fraction,
             narrow,
             scale_of(exponent, shape.quarter),
-        );
+        )
     } else if 0 < fraction {
-        write_finite(fraction, false, scale_of(1, shape.quarter));
+        write_finite(rt, fraction, false, scale_of(1, shape.quarter))
     } else {
-        tell(b"0");
+        tell(rt, b"0")
     }
 }
 
 // A float by its 32 bits.
-pub fn write_single(bits: usize) {
+pub fn write_single(rt: &impl Print, bits: usize) -> io::Result<()> {
     let shape = Shape {
         unit: 0x80_0000,
         last: 0xFF,
@@ -187,15 +210,16 @@ pub fn write_single(bits: usize) {
     };
     let rest = bits % 0x8000_0000;
     write_float(
+        rt,
         0x8000_0000 <= bits,
         rest / 0x80_0000,
         rest % 0x80_0000,
         shape,
-    );
+    )
 }
 
 // A double by its 64 bits.
-pub fn write_double(bits: usize) {
+pub fn write_double(rt: &impl Print, bits: usize) -> io::Result<()> {
     let shape = Shape {
         unit: 0x10_0000_0000_0000,
         last: 0x7FF,
@@ -203,9 +227,10 @@ pub fn write_double(bits: usize) {
     };
     let rest = bits % 0x8000_0000_0000_0000;
     write_float(
+        rt,
         0x8000_0000_0000_0000 <= bits,
         rest / 0x10_0000_0000_0000,
         rest % 0x10_0000_0000_0000,
         shape,
-    );
+    )
 }

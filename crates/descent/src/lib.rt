@@ -1,5 +1,7 @@
 // The check of a value and of all that is below it: value, object and list check call one another, the levels left falling (variant.rs,
 // object.rs, list.rs: with_full_validation).
+#![tactic(auto)]
+
 ghost use Rattle.std.specs.Prelude.{◌≡◌, ◌+◌, ◌≤◌, ◌<◌};
 ghost use Rattle.part.specs.Part.{part};
 ghost use Rattle.encoding.specs.declared.Header.TheVariants as header;
@@ -12,7 +14,7 @@ use nodes::{Container, Finding, Opening, Refusal};
 use texts::Span;
 
 // The value from a to e of the whole, below which `left` levels of containers may come, itself among them. What is good is marked.
-#[cycle(check_children_check_list_check_new_check_object_check_value)]
+#[cycle(descent)]
 pub fn check_value(
     dict: &[u8],
     h: dictionary::Header,
@@ -49,7 +51,7 @@ pub fn check_value(
 }
 
 // The same of a value that is not marked, by what its header byte says.
-#[cycle(check_children_check_list_check_new_check_object_check_value)]
+#[cycle(descent)]
 fn check_new(
     dict: &[u8],
     h: dictionary::Header,
@@ -89,7 +91,7 @@ fn check_new(
 }
 
 // An object: its layer's own checks, then its children, with `left` levels below it.
-#[cycle(check_children_check_list_check_new_check_object_check_value)]
+#[cycle(descent)]
 fn check_object(
     dict: &[u8],
     h: dictionary::Header,
@@ -115,7 +117,7 @@ fn check_object(
 }
 
 // A list: its layer's own checks, then its elements, with `left` levels below it.
-#[cycle(check_children_check_list_check_new_check_object_check_value)]
+#[cycle(descent)]
 fn check_list(
     dict: &[u8],
     h: dictionary::Header,
@@ -141,7 +143,7 @@ fn check_list(
 }
 
 // The children of a container in order, each with `left` levels. A small leaf is good as it stands, and is not marked.
-#[cycle(check_children_check_list_check_new_check_object_check_value)]
+#[cycle(descent)]
 fn check_children(
     dict: &[u8],
     h: dictionary::Header,

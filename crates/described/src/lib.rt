@@ -1,4 +1,6 @@
 // An object layer and its fields in words, to standard output: what is here promises safety only.
+#![tactic(auto)]
+
 ghost use Rattle.fields.specs.Steps.{Over};
 
 use answers::Answer;
@@ -6,21 +8,21 @@ use print::{quoted, room, say, tell, wide, write_hex};
 use reasons::refused;
 use slices::part_of;
 use speak::counted;
+use std::io;
 
-fn accepted(a: Answer) {
-    counted(b"accepted: ", a.number, b" field", b" fields");
-    say(b", the value region from byte ", a.start);
-    say(b" to byte ", a.end);
-    tell(b"\n");
+fn accepted(rt: &impl Print, a: Answer) -> io::Result<()> {
+    counted(rt, b"accepted: ", a.number, b" field", b" fields")?;
+    say(rt, b", the value region from byte ", a.start)?;
+    say(rt, b" to byte ", a.end)?;
+    tell(rt, b"\n")
 }
 
-pub fn check_object(dict: &[u8], object: &[u8]) {
+pub fn check_object(rt: &impl Print, dict: &[u8], object: &[u8]) -> io::Result<()> {
     let a = ask::layer(dict, object);
     if a.code != 0 {
-        refused(a.code, a.place);
-        return;
+        return refused(rt, a.code, a.place);
     }
-    accepted(a);
+    accepted(rt, a)
 }
 
 // So many bytes of `s` from `start` on; nothing where there are fewer.
@@ -29,63 +31,72 @@ fn bytes_at(s: &[u8], start: usize, count: usize) -> &[u8] {
 }
 
 // A field of a listing over a dictionary that was checked: nothing is checked again.
-fn field(dict: &[u8], h: dictionary::Header, object: &[u8], id: usize, start: usize, span: usize)
+fn field(
+    rt: &impl Print,
+    dict: &[u8],
+    h: dictionary::Header,
+    object: &[u8],
+    id: usize,
+    start: usize,
+    span: usize,
+) -> io::Result<()>
     requires { Over dict.now h }
 {
-    tell(b"  ");
+    tell(rt, b"  ")?;
     if id < h.count {
         let name = metadata::span_of(dict, h, id);
         let a = name.start;
         let e = name.end;
-        quoted(&dict[a..e]);
+        quoted(rt, &dict[a..e])?;
     }
-    say(b": id ", id);
-    say(b", start ", start);
-    say(b", span ", span);
-    tell(b":");
+    say(rt, b": id ", id)?;
+    say(rt, b", start ", start)?;
+    say(rt, b", span ", span)?;
+    tell(rt, b":")?;
     let child = bytes_at(object, start, span);
-    write_hex(child);
-    speak::value(child);
-    tell(b"\n");
+    write_hex(rt, child)?;
+    speak::value(rt, child)?;
+    tell(rt, b"\n")
 }
 
 // The fields of a listing, three words a field.
-fn fields(dict: &[u8], object: &[u8], words: &[u32]) {
+fn fields(rt: &impl Print, dict: &[u8], object: &[u8], words: &[u32]) -> io::Result<()> {
     let head = metadata::checked(dict);
     match head {
-        dictionary::Head::Refused(_) => {}
+        dictionary::Head::Refused(_) => Ok(()),
         dictionary::Head::Good(h) => {
             let mut at: usize = 0;
             while 3 <= words.len() - at {
                 field(
+                    rt,
                     dict,
                     h,
                     object,
                     wide(words[at]),
                     wide(words[at + 1]),
                     wide(words[at + 2]),
-                );
+                )?;
                 at += 3;
             }
+            Ok(())
         }
     }
 }
 
 // Three words a field. An object of more than 256 fields has three bytes or more for each, so that as many words as a program has bytes
 // are enough.
-pub fn list(dict: &[u8], object: &[u8]) {
+pub fn list(rt: &impl Print, dict: &[u8], object: &[u8]) -> io::Result<()> {
     let mut room = room::words();
     let words: &mut [u32] = &mut room;
     let a = ask_into::list(dict, object, words);
     if a.code != 0 {
-        refused(a.code, a.place);
-        return;
+        return refused(rt, a.code, a.place);
     }
-    accepted(a);
+    accepted(rt, a)?;
     if words.len() / 3 < a.number {
-        return;
+        return Ok(());
     }
     let n = 3 * a.number;
     let filled = &words[..];
-    fields(dict, object, &filled[0..n]);
+    fields(rt, dict, object, &filled[0..n])
 }

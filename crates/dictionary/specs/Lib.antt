@@ -3,3 +3,4 @@ pub mod Dictionary
 pub mod Meaning
 pub mod Answers
 pub mod Steps
+pub mod Wanted

@@ -1,7 +1,10 @@
 // What a dictionary's bytes say, and its header: checks 10 to 15, and the numbers where they pass (metadata.rs: VariantMetadata).
+#![tactic(auto)]
+
 ghost use Rattle.std.specs.Prelude.{◌≡◌, ◌+◌, ◌≤◌, ◌<◌, length};
 ghost use Rattle.dictionary.specs.Dictionary.{width as width_of, count as count_of, start as start_of, end as end_of, offset as offset_of};
 ghost use Rattle.dictionary.specs.Steps.{LeadOf, PlacesOf, HeadOf};
+ghost use Rattle.dictionary.specs.Wanted.{WantedPromise};
 
 // The longest dictionary or object that is read.
 pub const LIMIT: usize = 16_777_216;
@@ -22,7 +25,7 @@ pub enum Refusal {
 }
 
 // The numbers that the first bytes hold, handed on by value so that nothing is parsed twice.
-#[derive(Drop)]
+#[derive(Clone, Copy)]
 pub struct Header {
     pub width: usize,
     pub sorted: bool,
@@ -38,7 +41,7 @@ pub enum Head {
 }
 
 // What byte 0 says.
-#[derive(Drop)]
+#[derive(Clone, Copy)]
 struct Lead {
     version: usize,
     sorted: bool,
@@ -58,7 +61,7 @@ fn lead_of(dict: &[u8]) -> Lead
 }
 
 // The count, and where the region starts.
-#[derive(Drop)]
+#[derive(Clone, Copy)]
 struct Places {
     count: usize,
     start: usize,
@@ -133,4 +136,42 @@ pub fn read_header(dict: &[u8]) -> Head
         start: places.start,
         end,
     })
+}
+
+// How many bytes are wanted before the verdict can settle: more than there are exactly where it is "empty" or "short". It reads the header's
+// numbers alone, and answers no struct, since a dictionary that comes in pieces asks it for each of them.
+pub fn wanted(dict: &[u8]) -> usize
+    ensures { WantedPromise dict.now result }
+{
+    if dict.len() > LIMIT {
+        return 0;
+    }
+    if dict.len() < 1 {
+        return 1;
+    }
+    let lead = lead_of(dict);
+    if lead.version != 1 {
+        return 0;
+    }
+    if dict.len() < 1 + lead.width {
+        return 1 + lead.width;
+    }
+    let places = places_of(dict, lead.width);
+    if width::U32_MAX < places.start {
+        return 0;
+    }
+    if dict.len() < places.start {
+        return places.start;
+    }
+    if offset_at(dict, lead.width, 0) != 0 {
+        return 0;
+    }
+    let end = end_of(dict, lead.width, places);
+    if width::U32_MAX < end {
+        return 0;
+    }
+    if dict.len() < end {
+        return end;
+    }
+    0
 }

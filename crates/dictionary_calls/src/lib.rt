@@ -1,4 +1,6 @@
 // The calls of the dictionary alone: its verdict, a name by its number, and the empty one. Each is `lichenhusk`'s by one line, and its promise is proved here.
+#![tactic(auto)]
+
 ghost use Rattle.dictionary_calls.specs.Promises.{DictionaryPromise, NamePromise, EmptyPromise};
 
 use strip::STRIP;

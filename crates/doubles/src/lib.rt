@@ -1,10 +1,12 @@
 // Whether a name stands twice, and where first (document 02, k: 26). Names that were sorted, each once, are fewer then; the place is found by
 // halving, or by search where there is no scratch.
+#![tactic(auto)]
+
 ghost use Rattle.std.specs.Prelude.{◌≡◌, ◌≤◌, ◌<◌, length};
 ghost use Rattle.rules.specs.Rules.Found.{pass, stop};
 ghost use Rattle.sets.specs.Sets.{collect};
 ghost use Rattle.source.specs.Names.{name_of, count_of, Sound};
-ghost use Rattle.doubles.specs.Doubles.{checks as checksOf, Double};
+ghost use Rattle.doubles.specs.Doubles.{checks as checks_of, Double};
 ghost use Rattle.doubles.specs.Steps.{SeenOf, DoublesOf, SearchedOf};
 
 use pick::Plan;

@@ -1,4 +1,6 @@
 // Eight bytes at a time: as the number that they spell, or as the processor loads them.
+#![tactic(auto)]
+
 ghost use Rattle.std.specs.Prelude.{◌≡◌, ◌+◌, ◌≤◌, ◌<◌, min, length};
 ghost use Rattle.eights.specs.Steps.{be, Raw, Alike, Decides};
 

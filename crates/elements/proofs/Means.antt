@@ -9,7 +9,7 @@ use Rattle.layout.proofs.Laws.{end_is}
 use Rattle.list.specs.List.{element_rules, checks as list_checks}
 use Rattle.list.proofs.Laws as laws
 use Rattle.list.proofs.Means as list
-use Rattle.elements.specs.Element.{widths, head_rules, checks, element, found as foundFor}
+use Rattle.elements.specs.Element.{widths, head_rules, checks, element, found as found_for}
 use Rattle.elements.specs.Meaning.{IsList, Found, Absent, Refusal}
 use Rattle.elements.specs.Meaning.Refusal.{too_long, empty, no_list, layer}
 use Rattle.elements.specs.Promises.{Lead}
@@ -56,7 +56,7 @@ module _ (v : List ℕ) where
     unfolding element
     by_answer P found absent refused = by_meaning P _ checks_mean (λ l. go l (dec_lt n (count (widths v) v))) refused
       where
-        go : IsList v → Dec (n < count (widths v) v) → P (foundFor v n)
+        go : IsList v → Dec (n < count (widths v) v) → P (found_for v n)
         go l (yes p) = rw (lt-ltb n (count (widths v) v) p) (found _ _ (record { accepted = l; is_element = p; starts = refl; ends = refl }))
         go l (no p) = rw (le-ltb n (count (widths v) v) (omega arith)) (absent (record { accepted = l; past = omega arith }))
 

@@ -1,4 +1,6 @@
 // One element of a list, asked for by its index (variant.rs: Variant::get_list_element).
+#![tactic(auto)]
+
 ghost use Rattle.layout.specs.Steps.{Few};
 ghost use Rattle.elements.specs.Promises.{GetPromise, Lead};
 

@@ -1,4 +1,6 @@
 // A value's header byte, and what it says (variant.rs, decoder.rs).
+#![tactic(auto)]
+
 ghost use Rattle.std.specs.Prelude.{◌≡◌};
 ghost use Rattle.encoding.specs.Encoding.{object_widths, list_widths, count_width};
 ghost use Rattle.encoding.specs.Promises.{HeaderPromise};

@@ -1,11 +1,13 @@
 // The region's text and the entries of a dictionary whose header passed: checks 16 to 19 (metadata.rs: VariantMetadata).
+#![tactic(auto)]
+
 ghost use Rattle.std.specs.Prelude.{◌≡◌, ◌≤◌, ◌<◌, length};
 ghost use Rattle.part.specs.Part.{part};
 ghost use Rattle.chars.specs.Rfc3629.{Text};
 ghost use Rattle.names.specs.Order.{below};
 ghost use Rattle.rules.specs.Rules.{first, each, Says};
 ghost use Rattle.rules.specs.Rules.Test.{is, isn't, ◌<?◌, ◌and◌};
-ghost use Rattle.dictionary.specs.Dictionary.{count as count_of, region as regionOf, outside, region_rules, entry_rules, checks};
+ghost use Rattle.dictionary.specs.Dictionary.{count as count_of, region as region_of, outside, region_rules, entry_rules, checks};
 ghost use Rattle.dictionary.specs.Steps.{HeaderOf};
 ghost use Rattle.entries.specs.Steps.{Reached, EntryOf, found_of};
 
@@ -80,7 +82,7 @@ enum Step {
 // Checks 17 and 18 of entry k, which starts at `a`; `p` is where the one before starts. That `a` cuts no character is known: it was the
 // end of the entry before, or it is 0.
 fn check_entry(dict: &[u8], region: &[u8], h: Header, k: usize, p: usize, a: usize) -> Step
-    requires { HeaderOf dict.now h × (region.now ≡ regionOf dict.now) × (k < count_of dict.now) × Reached dict.now k p a }
+    requires { HeaderOf dict.now h × (region.now ≡ region_of dict.now) × (k < count_of dict.now) × Reached dict.now k p a }
     ensures { EntryOf dict.now k a result }
 {
     let w = h.width;
@@ -96,7 +98,7 @@ fn check_entry(dict: &[u8], region: &[u8], h: Header, k: usize, p: usize, a: usi
 
 // Checks 17 and 18, entry by entry.
 fn check_each(dict: &[u8], region: &[u8], h: Header) -> Outcome
-    requires { HeaderOf dict.now h × (region.now ≡ regionOf dict.now) × Text (regionOf dict.now) }
+    requires { HeaderOf dict.now h × (region.now ≡ region_of dict.now) × Text (region_of dict.now) }
     ensures { found_of result ≡ first (each (entry_rules dict.now) (count_of dict.now)) }
 {
     let count = h.count;
@@ -121,7 +123,7 @@ fn check_each(dict: &[u8], region: &[u8], h: Header) -> Outcome
 
 // Checks 17 and 18, row by row only where something is flagged.
 fn check_entries(dict: &[u8], region: &[u8], h: Header) -> Outcome
-    requires { HeaderOf dict.now h × (region.now ≡ regionOf dict.now) × Text (regionOf dict.now) }
+    requires { HeaderOf dict.now h × (region.now ≡ region_of dict.now) × Text (region_of dict.now) }
     ensures { found_of result ≡ first (each (entry_rules dict.now) (count_of dict.now)) }
 {
     if flags::flagged(dict, region, h) {

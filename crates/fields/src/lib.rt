@@ -1,4 +1,6 @@
 // The checks of an object layer's fields over a dictionary, field by field: ids, names and offsets, 25 to 28 (object.rs: VariantObject).
+#![tactic(auto)]
+
 ghost use Rattle.std.specs.Prelude.{◌≡◌, ◌≤◌, length};
 ghost use Rattle.part.specs.Part.{part};
 ghost use Rattle.names.specs.Order.{below};

@@ -1,9 +1,13 @@
 // A file's bytes, or why it cannot be read. What cannot be read to its end is not read.
-ghost use Rattle.std.specs.Prelude.{◌≤◌, length};
+#![tactic(auto)]
 
-use libc::STDOUT_FILENO;
+ghost use Rattle.std.specs.Prelude.{◌≤◌, length, IfOk};
+
 use print::room::{ROOM, use_library};
 use print::{quoted_to, tell_to};
+use std::io::{ErrorKind, Read, Write};
+use std::rt::Files;
+use std::{fs, io, str};
 
 // What a file is read into: a byte more than a program has room for, so that a longer file is seen.
 pub const LENT: usize = ROOM + 1;
@@ -23,109 +27,136 @@ fn bad() -> File
     }
 }
 
-fn why(to: i32, error: i32) {
-    if error == libc::ENOENT {
-        tell_to(to, b"there is no such file\n");
-    } else if error == libc::EACCES {
-        tell_to(to, b"that is not allowed\n");
-    } else if error == libc::EISDIR {
-        tell_to(to, b"it is a folder\n");
-    } else if error == libc::ENAMETOOLONG {
-        tell_to(to, b"its name is too long\n");
-    } else {
-        tell_to(to, b"the system refuses\n");
+// A name that is no text is InvalidData, since `std` opens no file by one; no file's own error is that.
+fn why(to: &mut impl Write, error: &io::Error) -> io::Result<()> {
+    match error.kind() {
+        ErrorKind::NotFound => tell_to(to, b"there is no such file\n"),
+        ErrorKind::PermissionDenied => tell_to(to, b"that is not allowed\n"),
+        ErrorKind::IsADirectory => tell_to(to, b"it is a folder\n"),
+        ErrorKind::InvalidFilename => tell_to(to, b"its name is too long\n"),
+        ErrorKind::InvalidData => tell_to(to, b"its name is not UTF-8\n"),
+        _ => tell_to(to, b"the system refuses\n"),
     }
 }
 
-fn cannot(to: i32, path: &[u8]) {
-    tell_to(to, b"cannot read ");
-    quoted_to(to, path);
-    tell_to(to, b": ");
+fn cannot(to: &mut impl Write, path: &[u8]) -> io::Result<()> {
+    tell_to(to, b"cannot read ")?;
+    quoted_to(to, path)?;
+    tell_to(to, b": ")
 }
 
-fn failed(to: i32, path: &[u8]) {
-    let error = os::errno();
-    cannot(to, path);
-    why(to, error);
+fn failed(to: &mut impl Write, path: &[u8], error: &io::Error) -> io::Result<()> {
+    cannot(to, path)?;
+    why(to, error)
 }
 
 // The same of standard input, after some words.
-pub fn input_failed(to: i32, before: &[u8]) {
-    let error = os::errno();
-    tell_to(to, before);
-    tell_to(to, b"cannot read standard input: ");
-    why(to, error);
+pub fn input_failed(to: &mut impl Write, before: &[u8], error: &io::Error) -> io::Result<()> {
+    tell_to(to, before)?;
+    tell_to(to, b"cannot read standard input: ")?;
+    why(to, error)
 }
 
-fn too_long(to: i32, path: &[u8]) {
-    cannot(to, path);
-    tell_to(to, b"it is");
-    use_library(to, ROOM, b" bytes");
-    tell_to(to, b"\n");
+fn too_long(to: &mut impl Write, path: &[u8]) -> io::Result<()> {
+    cannot(to, path)?;
+    tell_to(to, b"it is")?;
+    use_library(to, ROOM, b" bytes")?;
+    tell_to(to, b"\n")
 }
 
 // As much of the file as there is room for. A read that fails, the first or a later one, leaves nothing of it.
-fn read(fd: i32, out: &mut [u8]) -> File
-    ensures { result.len ≤ length out.new }
+pub fn read(from: &mut impl Read, out: &mut [u8]) -> io::Result<usize>
+    ensures { IfOk result (λ len. len ≤ length out.new) }
 {
     let mut len: usize = 0;
     while len < out.len() {
-        let got = libc::read(fd, &mut out[len..]);
-        if got < 0 {
-            return bad();
-        }
-        let n = io::count(got, &out[len..]);
+        let n = from.read(&mut out[len..])?;
         if n == 0 {
-            return File { good: true, len };
+            return Ok(len);
         }
         len += n;
     }
-    File { good: true, len }
+    Ok(len)
+}
+
+// The file of a name.
+pub fn open<R: Files>(rt: &R, path: &[u8]) -> io::Result<R::File> {
+    match str::from_utf8(path) {
+        Ok(name) => fs::open(rt, name),
+        Err(_) => Err(io::Error::from(ErrorKind::InvalidData)),
+    }
+}
+
+// A line to standard error: the file that a program needs, and why it cannot be had.
+pub fn fail(rt: &impl Eprint, path: &[u8], error: &io::Error) -> io::Result<()> {
+    match str::from_utf8(path) {
+        Ok(name) => eprintln!(rt; "{name}: {error}"),
+        Err(_) => eprintln!(rt; "{error}"),
+    }
+}
+
+fn read_file(rt: &impl Files, path: &[u8], out: &mut [u8]) -> io::Result<usize>
+    ensures { IfOk result (λ len. len ≤ length out.new) }
+{
+    read(&mut open(rt, path)?, out)
 }
 
 // All of a file; why it cannot be read goes to `to`.
-pub fn load_to(to: i32, path: &[u8], out: &mut [u8; LENT]) -> File
-    ensures len_bound { result.len ≤ ROOM }
-    ensures len_in_bounds { result.len ≤ length out.new }
+pub fn load_to(
+    rt: &impl Files,
+    to: &mut impl Write,
+    path: &[u8],
+    out: &mut [u8; LENT],
+) -> io::Result<File>
+    ensures len_bound { IfOk result (λ file. file.len ≤ ROOM) }
+    ensures len_in_bounds { IfOk result (λ file. file.len ≤ length out.new) }
 {
-    let fd = os::open_read(path);
-    if fd < 0 {
-        failed(to, path);
-        return bad();
+    match read_file(rt, path, out) {
+        Err(error) => {
+            failed(to, path, &error)?;
+            Ok(bad())
+        }
+        Ok(file_len) => {
+            if ROOM < file_len {
+                too_long(to, path)?;
+                return Ok(bad());
+            }
+            Ok(File {
+                good: true,
+                len: file_len,
+            })
+        }
     }
-    let file = read(fd, out);
-    if !file.good {
-        failed(to, path);
-    }
-    libc::close(fd);
-    if ROOM < file.len {
-        too_long(to, path);
-        return bad();
-    }
-    file
 }
 
-pub fn load(path: &[u8], out: &mut [u8; LENT]) -> File
-    ensures len_bound { result.len ≤ ROOM }
-    ensures len_in_bounds { result.len ≤ length out.new }
+pub fn load(rt: &(impl Files + Print), path: &[u8], out: &mut [u8; LENT]) -> io::Result<File>
+    ensures len_bound { IfOk result (λ file. file.len ≤ ROOM) }
+    ensures len_in_bounds { IfOk result (λ file. file.len ≤ length out.new) }
 {
-    load_to(STDOUT_FILENO, path, out)
+    load_to(rt, &mut io::writer(rt), path, out)
 }
 
-// All of standard input, or of what is open as `fd` in its place; why it cannot be read goes to `to`.
-pub fn input(fd: i32, to: i32, out: &mut [u8; LENT]) -> File
-    ensures len_bound { result.len ≤ ROOM }
-    ensures len_in_bounds { result.len ≤ length out.new }
+// All of standard input, or of what is read in its place; why it cannot be read goes to `to`.
+pub fn input(from: &mut impl Read, to: &mut impl Write, out: &mut [u8; LENT]) -> io::Result<File>
+    ensures len_bound { IfOk result (λ file. file.len ≤ ROOM) }
+    ensures len_in_bounds { IfOk result (λ file. file.len ≤ length out.new) }
 {
-    let text = read(fd, out);
-    if !text.good {
-        input_failed(to, b"");
+    match read(from, out) {
+        Err(error) => {
+            input_failed(to, b"", &error)?;
+            Ok(bad())
+        }
+        Ok(text_len) => {
+            if ROOM < text_len {
+                tell_to(to, b"standard input is")?;
+                use_library(to, ROOM, b" bytes")?;
+                tell_to(to, b"\n")?;
+                return Ok(bad());
+            }
+            Ok(File {
+                good: true,
+                len: text_len,
+            })
+        }
     }
-    if ROOM < text.len {
-        tell_to(to, b"standard input is");
-        use_library(to, ROOM, b" bytes");
-        tell_to(to, b"\n");
-        return bad();
-    }
-    text
 }

@@ -1,4 +1,6 @@
 // A sorted dictionary's bytes from the names of a run, each once, into lent room.
+#![tactic(auto)]
+
 ghost use Rattle.std.specs.Prelude.{◌≡◌, max};
 ghost use Rattle.std.proofs.lemmas.List.Edits.{sets};
 ghost use Rattle.run.specs.Meaning.{GoodEnds};

@@ -1,9 +1,11 @@
 // Flags for the entries of a dictionary that are to be checked row by row (metadata.rs: VariantMetadata).
+#![tactic(auto)]
+
 ghost use Rattle.std.specs.Prelude.{◌≡◌, false, ◌≤◌, ◌<◌, length};
 ghost use Rattle.chars.specs.Rfc3629.{Text};
 ghost use Rattle.rules.specs.Rules.{first, each, Fails};
 ghost use Rattle.rules.specs.Rules.Found.{pass};
-ghost use Rattle.dictionary.specs.Dictionary.{count as count_of, region as regionOf, outside, entry_rules};
+ghost use Rattle.dictionary.specs.Dictionary.{count as count_of, region as region_of, outside, entry_rules};
 ghost use Rattle.dictionary.specs.Steps.{HeaderOf};
 
 use dictionary::{Header, offset_at};
@@ -29,7 +31,7 @@ fn suspect(region: &[u8], a: usize, e: usize) -> bool
 // Whether any entry is suspect. The loop goes over all of them and branches on none, so that a dictionary in which all is well is not held up;
 // where the names need not be in order, all its rows pass.
 fn any_suspect(dict: &[u8], region: &[u8], h: Header) -> bool
-    requires { HeaderOf dict.now h × (region.now ≡ regionOf dict.now) × Text (regionOf dict.now) × (h.sorted ≡ false) × (1 ≤ length region.now) }
+    requires { HeaderOf dict.now h × (region.now ≡ region_of dict.now) × Text (region_of dict.now) × (h.sorted ≡ false) × (1 ≤ length region.now) }
     ensures { result ≡ false → first (each (entry_rules dict.now) (count_of dict.now)) ≡ pass }
 {
     let n = h.count;
@@ -49,7 +51,7 @@ fn any_suspect(dict: &[u8], region: &[u8], h: Header) -> bool
 // Whether the rows are to be asked one by one: also where the names are to be in order, since comparing them hides the other tests, and where
 // there is no byte to look at.
 pub fn flagged(dict: &[u8], region: &[u8], h: Header) -> bool
-    requires { HeaderOf dict.now h × (region.now ≡ regionOf dict.now) × Text (regionOf dict.now) }
+    requires { HeaderOf dict.now h × (region.now ≡ region_of dict.now) × Text (region_of dict.now) }
     ensures { result ≡ false → first (each (entry_rules dict.now) (count_of dict.now)) ≡ pass }
 {
     if h.sorted {

@@ -1,4 +1,6 @@
 // Names that are given to be written: in a run of bytes with ends, each of them UTF-8.
+#![tactic(auto)]
+
 ghost use Rattle.given.specs.Meaning.{SpanIs};
 ghost use Rattle.given.specs.Promises.{CheckPromise};
 

@@ -38,8 +38,8 @@ module _ (shape : Shape) (strip : List ℕ) (x y : Answer) {code : ℕ} {after :
       go (no h) = let t = le-ltb (length strip) strip_bytes (omega arith) in rw (same ((rw t at l.returns) ∙ first_is shape x)) l
 
   -- with the words that a call fills
-  keeps_filled : {lent f g lentAfter : List ℕ} → (code ≡ code_of x → (y ≡ x) × (g ≡ f)) → Filled strip (words_of shape x) lent f code after lentAfter
-      → Filled strip (words_of shape y) lent g code after lentAfter
+  keeps_filled : {lent f g lent_after : List ℕ} → (code ≡ code_of x → (y ≡ x) × (g ≡ f)) → Filled strip (words_of shape x) lent f code after lent_after
+      → Filled strip (words_of shape y) lent g code after lent_after
   unfolding filled_after returned
   keeps_filled {lent} {f} {g} same p =
       record { strip_left = keeps (λ c. (same c).0) p.strip_left; words_left = p.words_left ∙ go (dec_lt (length strip) strip_bytes) }
@@ -90,7 +90,7 @@ module _ (d t v u marks strip : List ℕ) {w : Widths} (is : head_of v ≡ heade
       → TreePromise (d ++ t) (v ++ u) marks strip code after left
   unfolding returned
   tree_kept {code} {after} settled p =
-      keeps_filled tree_shape strip _ _ (λ c. (tree_appended.verdict-appended d t v u is fits value-fits (λ n q e. go n q e (c ∙ ap code_of e) (dec_lt (length strip) strip_bytes)), refl)) p
+      keeps_filled tree_shape strip _ _ (λ c. (tree_appended.verdict_appended d t v u is fits value-fits (λ n q e. go n q e (c ∙ ap code_of e) (dec_lt (length strip) strip_bytes)), refl)) p
     where
       go : (n q : ℕ) → tree.verdict d v ≡ gives n (0 ∷ []) q → code ≡ n → Dec (length strip < strip_bytes) → Settled n
       go n q e c (yes h) =
@@ -108,6 +108,6 @@ module _ (d t v u path names words strip q : List ℕ) (xs : List Step) (is : an
   path_kept settled p =
       record {
         strip_left = keeps lookup_shape strip _ _ (λ c. path_appended d t v u fits value-fits path names words q xs is (rw c at settled)) p.strip_left;
-        names_stay = p.names_stay;
+        names_left = p.names_left;
         words_left = p.words_left;
       }

@@ -42,48 +42,48 @@ module _ (strip : List ℕ) (m : ℕ) {code : ℕ} {after : List ℕ} where
   -- THE DICTIONARY CUT
   module _ (d : List ℕ) (n e : ℕ) (accepted : dictionary.verdict d ≡ accept (n ∷ e ∷ [])) (cut : m < e) where
     pub dictionary_cut : DictionaryPromise (take m d) strip code after → LeftAs 11 13 strip code after
-    dictionary_cut = of_words dictionary_shape strip _ (dictionary-cuts.verdict-cut d n e m accepted cut)
+    dictionary_cut = of_words dictionary_shape strip _ (dictionary-cuts.verdict_cut d n e m accepted cut)
 
     pub name_cut : (i : ℕ) → NamePromise (take m d) i strip code after → LeftAs 11 13 strip code after
-    name_cut i = of_words name_shape strip _ (dictionary-cuts.name-cut d n e m accepted cut i)
+    name_cut i = of_words name_shape strip _ (dictionary-cuts.name_cut d n e m accepted cut i)
 
     pub layer_cut : (o : List ℕ) → LayerPromise (take m d) o strip code after → LeftAs 11 13 strip code after
-    layer_cut o = of_words layer_shape strip _ (object-cuts.dictionary-cut d o n e m accepted cut)
+    layer_cut o = of_words layer_shape strip _ (object-cuts.dictionary_cut d o n e m accepted cut)
 
     pub lookup_cut : (o q : List ℕ) → LookupPromise (take m d) o q strip code after → LeftAs 11 13 strip code after
-    lookup_cut o q = of_words lookup_shape strip _ (lookup-cuts.dictionary-cut d o q m n e accepted cut)
+    lookup_cut o q = of_words lookup_shape strip _ (lookup-cuts.dictionary_cut d o q m n e accepted cut)
 
     pub list_cut : (o w left : List ℕ) → ListPromise (take m d) o w strip code after left → LeftAs 11 13 strip code after × (left ≡ w)
     list_cut o w left p =
-        let c = listing-cuts.dictionary-cut d o w m n e accepted cut in (of_words layer_shape strip _ c.0 p.strip_left, p.words_left ∙ as_lent w strip c.1)
+        let c = listing-cuts.dictionary_cut d o w m n e accepted cut in (of_words layer_shape strip _ c.0 p.strip_left, p.words_left ∙ as_lent w strip c.1)
 
     pub all_cut : (o names ends w left : List ℕ) → GoodEnds names ends → AllPromise (take m d) o names ends w strip code after left
         → LeftAs 11 13 strip code after × (left ≡ w)
     all_cut o names ends w left good p =
-        let c = many-cuts.dictionary-cut names ends w good d o m n e accepted cut in (of_words layer_shape strip _ c.0 p.strip_left, p.words_left ∙ as_lent w strip c.1)
+        let c = many-cuts.dictionary_cut names ends w good d o m n e accepted cut in (of_words layer_shape strip _ c.0 p.strip_left, p.words_left ∙ as_lent w strip c.1)
 
     pub tree_cut : (v marks left : List ℕ) → TreePromise (take m d) v marks strip code after left → LeftAs 11 13 strip code after
-    tree_cut v marks left p = ⊎_elim (λ x. inl (rw x at p.strip_left)) (λ x. inr (rw x at p.strip_left)) (tree-cuts.dictionary-cut d v n e m accepted cut)
+    tree_cut v marks left p = ⊎_elim (λ x. inl (rw x at p.strip_left)) (λ x. inr (rw x at p.strip_left)) (tree-cuts.dictionary_cut d v n e m accepted cut)
 
   -- THE OBJECT CUT
   module _ (d o : List ℕ) (n v e : ℕ) (accepted : object.verdict d o ≡ accept (n ∷ v ∷ e ∷ [])) (cut : m < e) where
     pub layer_object_cut : LayerPromise d (take m o) strip code after → LeftAs 21 23 strip code after
-    layer_object_cut = of_words layer_shape strip _ (object-cuts.object-cut d o n v e m accepted cut)
+    layer_object_cut = of_words layer_shape strip _ (object-cuts.object_cut d o n v e m accepted cut)
 
     pub lookup_object_cut : (q : List ℕ) → LookupPromise d (take m o) q strip code after → LeftAs 21 23 strip code after
-    lookup_object_cut q = of_words lookup_shape strip _ (lookup-cuts.object-cut d o q m n v e accepted cut)
+    lookup_object_cut q = of_words lookup_shape strip _ (lookup-cuts.object_cut d o q m n v e accepted cut)
 
     pub list_object_cut : (w left : List ℕ) → ListPromise d (take m o) w strip code after left → LeftAs 21 23 strip code after × (left ≡ w)
     list_object_cut w left p =
-        let c = listing-cuts.object-cut d o w m n v e accepted cut in (of_words layer_shape strip _ c.0 p.strip_left, p.words_left ∙ as_lent w strip c.1)
+        let c = listing-cuts.object_cut d o w m n v e accepted cut in (of_words layer_shape strip _ c.0 p.strip_left, p.words_left ∙ as_lent w strip c.1)
 
     pub all_object_cut : (names ends w left : List ℕ) → GoodEnds names ends → AllPromise d (take m o) names ends w strip code after left
         → LeftAs 21 23 strip code after × (left ≡ w)
     all_object_cut names ends w left good p =
-        let c = many-cuts.object-cut names ends w good d o m n v e accepted cut in (of_words layer_shape strip _ c.0 p.strip_left, p.words_left ∙ as_lent w strip c.1)
+        let c = many-cuts.object_cut names ends w good d o m n v e accepted cut in (of_words layer_shape strip _ c.0 p.strip_left, p.words_left ∙ as_lent w strip c.1)
 
   -- as a tree: of no bytes it is 50
   pub tree_object_cut : (d v : List ℕ) {w : Widths} → head_of v ≡ header.Object w → (e : ℕ) → tree.verdict d v ≡ accept (0 ∷ e ∷ []) → m < e
       → (marks left : List ℕ) → TreePromise d (take m v) marks strip code after left → LeftAs 50 23 strip code after
   tree_object_cut d v is e accepted cut marks left p =
-      ⊎_elim (λ x. inl (rw x at p.strip_left)) (λ x. inr (rw x at p.strip_left)) (tree-cuts.value-cut d v is m e accepted cut)
+      ⊎_elim (λ x. inl (rw x at p.strip_left)) (λ x. inr (rw x at p.strip_left)) (tree-cuts.value_cut d v is m e accepted cut)

@@ -45,7 +45,7 @@ module _ (strip : List ℕ) (enough : strip_bytes ≤ length strip) {code : ℕ}
       where
         only : (words : List ℕ) → NameSays d i words → words_of name_shape (dictionary.name_at d i) ≡ words
         only _ (named n) = ap (words_of name_shape) ((dictionary-names.named d i _ _).1 n)
-        only _ (no_entry n) = ap (words_of name_shape) ((dictionary-names.no-entry d i).1 n)
+        only _ (no_entry n) = ap (words_of name_shape) ((dictionary-names.no_entry d i).1 n)
         only _ (name-refused b t r) = ap (words_of name_shape) ((dictionary-names.refused_is d i _ _ (λ e. omega arith)).1 r)
 
     module _ (o : List ℕ) where

@@ -23,7 +23,7 @@ longest_dictionary t l =
     appended none t (omega arith) (λ e. omega arith) (λ e. omega arith) ∙ is
 
 pub longer_dictionary : (d : List ℕ) → length d ≡ limit + 1 → dictionary.verdict d ≡ refuse 10 0
-longer_dictionary d l = dictionary-raised.verdict-past limit d (omega arith)
+longer_dictionary d l = dictionary-raised.verdict_past limit d (omega arith)
 
 pub longest_object : (u : List ℕ) → length (P ++ u) ≡ limit → lookup D (P ++ u) flow ≡ accept (0 ∷ 0 ∷ 8 ∷ 10 ∷ [])
 longest_object u l =
@@ -35,7 +35,7 @@ longest_object u l =
 
 pub longer_object : (d o : List ℕ) {n e : ℕ} → dictionary.verdict d ≡ accept (n ∷ e ∷ []) → length o ≡ limit + 1 → object.verdict d o ≡ refuse 20 0
 unfolding dictionary.verdict_within
-longer_object d o v l = object-raised.verdict-past limit d o (let_through (dictionary.checks d) _ v).0 (omega arith)
+longer_object d o v l = object-raised.verdict_past limit d o (let_through (dictionary.checks d) _ v).0 (omega arith)
 
 pub longer_tree : (d v : List ℕ) {n e : ℕ} → dictionary.verdict d ≡ accept (n ∷ e ∷ []) → length v ≡ limit + 1 → tree.verdict d v ≡ gives 20 (0 ∷ []) 0
 unfolding dictionary.verdict_within tree.verdict_at tree.checks_at tree.here ◌and_then◌ first

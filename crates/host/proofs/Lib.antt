@@ -12,5 +12,6 @@ pub mod Trees
 pub mod Paths
 pub mod Writes
 pub mod WritesObject
+pub mod Pieces
 pub mod Raised
 pub mod Lengths

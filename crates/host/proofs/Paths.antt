@@ -31,7 +31,7 @@ use Rattle.path.specs.Meaning.{Ends, Says}
 use Rattle.path.specs.Meaning.Ends.{arrived, by_name, by_index, no_name, no_index, no_object, no_list as not-list, bad_object, bad_list}
 use Rattle.path.specs.Meaning.Says.{bad_path, bad_dictionary, walked}
 use Rattle.path.proofs.Means as means
-use Rattle.strip.specs.Shapes.{words_of as stripWords, lookup_shape, strip_bytes}
+use Rattle.strip.specs.Shapes.{words_of as strip_words, lookup_shape, strip_bytes}
 use Rattle.lichenhusk.specs.Strip.{path_words, returned, filled_after}
 use Rattle.lichenhusk.specs.Promises.{PathPromise}
 use Rattle.host.specs.Host.{words_in, Tells, PathSays, Steps, FillsSteps}
@@ -44,7 +44,7 @@ use Rattle.host.proofs.Exactly.{exactly}
 
 -- a walk's answer: its words, and that its number is below those of the path's own refusals and is not the strip's
 abbrev Walked : Answer → Type 0
-Walked r = Fits (stripWords lookup_shape r) × (code_of r < 70) × (code_of r ≡ 40 → ⊥)
+Walked r = Fits (strip_words lookup_shape r) × (code_of r < 70) × (code_of r ≡ 40 → ⊥)
 
 -- there are fewer elements than bytes of a list's header
 few_elements : (s : List ℕ) → count (widths s) s < start (widths s) s
@@ -71,7 +71,7 @@ module _ (d v : List ℕ) (short : length v < 4294967296) where
   ends_fit few small (by_name {k = k} {a = a} {e = e} {at = at} {q = q} f more) =
       let s = handed v at in
       let l = layer_small d s f.accepted in
-      let u = dictionary-fits.accepted-small d f.accepted.named.headed.placed.counted.typed.sized.over in
+      let u = dictionary-fits.accepted_small d f.accepted.named.headed.placed.counted.typed.sized.over in
       let i = lookup.found_inside d s q _ _ _ _ f in
       let p = part_length v at.start at.end small.rises small.inside in
       ends_fit (omega (arith, few))
@@ -92,9 +92,9 @@ module _ (d v : List ℕ) (short : length v < 4294967296) where
 
 -- the path's own refusals have numbers of their own
 wrong_code : {w : List ℕ} {c : ℕ} → path.Wrong w c → (70 ≤ c) × (c < 77)
-wrong_code path.Wrong.trailing-dot = omega arith
+wrong_code path.Wrong.trailing_dot = omega arith
 wrong_code (path.Wrong.no_name e) = omega arith
-wrong_code path.Wrong.closes-nothing = omega arith
+wrong_code path.Wrong.closes_nothing = omega arith
 wrong_code (path.Wrong.unclosed n) = omega arith
 wrong_code (path.Wrong.neither s n) = omega arith
 
@@ -115,9 +115,9 @@ module _ (d v path names words : List ℕ) (short : length v < 4294967296) (few 
       let rows = a.room.rows in
       ends_fit d v short (omega (arith, rows, few)) (record { field_fits = omega arith; id_fits = omega arith; rises = omega arith; inside = omega arith }) e
 
-  answer_fits : {r : Answer} → Says d v path names words r → Fits (stripWords lookup_shape r) × (code_of r ≡ 40 → ⊥)
+  answer_fits : {r : Answer} → Says d v path names words r → Fits (strip_words lookup_shape r) × (code_of r ≡ 40 → ⊥)
   answer_fits (bad_path r) = let z = path_code r in (omega (arith, z), λ e. omega (arith, z))
-  answer_fits (bad_dictionary a r) = let z = dictionary-fits.checks-code d (dictionary-refuses.is_due d r) in (omega (arith, z), λ e. omega (arith, z))
+  answer_fits (bad_dictionary a r) = let z = dictionary-fits.checks_code d (dictionary-refuses.is_due d r) in (omega (arith, z), λ e. omega (arith, z))
   answer_fits (walked a good e) = let z = walk_fits a e in (z.0, z.2)
 
   pub path_said : Said (PathSays d v path names words) (path_words d v path names words)
@@ -127,7 +127,7 @@ module _ (d v path names words : List ℕ) (short : length v < 4294967296) (few 
       (f.0, (λ e. f.1 (sym (first_is lookup_shape (by_path d v path names words)) ∙ e)), says s)
 
   path_only : (six : List ℕ) → PathSays d v path names words six → path_words d v path names words ≡ six
-  path_only _ (says t) = ap (stripWords lookup_shape) (means.said d v path names words t)
+  path_only _ (says t) = ap (strip_words lookup_shape) (means.said d v path names words t)
 
   module _ (strip : List ℕ) (code : ℕ) (after names' words' : List ℕ) (promised : PathPromise d v path names words strip code after names' words') where
     -- THE STRIP
@@ -157,7 +157,7 @@ module _ (d v path names words : List ℕ) (short : length v < 4294967296) (few 
         let z = path_code r in
         record { no_strip = λ f. absurd (omega (arith, z, e, f)); kept = λ _. (rw is at p, rw is at q); filled = λ m h. absurd (omega (arith, z, e, h)) }
     by_case (bad_dictionary a r) e p q =
-        let z = dictionary-fits.checks-code d (dictionary-refuses.is_due d r) in
+        let z = dictionary-fits.checks_code d (dictionary-refuses.is_due d r) in
         record { no_strip = λ f. absurd (omega (arith, z, e, f)); kept = λ h. absurd (omega (arith, z, e, h)); filled = λ _ _. have_steps a p q }
     by_case (walked a good t) e p q =
         let z = walk_fits a t in
@@ -171,10 +171,10 @@ module _ (d v path names words : List ℕ) (short : length v < 4294967296) (few 
         go (yes h) =
             let so = lt-ltb (length strip) strip_bytes h in
             let z : code ≡ 40 = promised.strip_left.returns ∙ rw so in
-            let p : names' ≡ names = promised.names_stay ∙ rw so in
+            let p : names' ≡ names = promised.names_left ∙ rw so in
             let q : words' ≡ words = promised.words_left ∙ rw so in
             record { no_strip = λ _. (p, q); kept = λ _. (p, q); filled = λ m. absurd (m z) }
         go (no h) =
             let so = le-ltb (length strip) strip_bytes (omega arith) in
             let z : code ≡ code_of (by_path d v path names words) = promised.strip_left.returns ∙ rw so (first_is lookup_shape (by_path d v path names words)) in
-            by_case (means.says d v path names words) z (promised.names_stay ∙ rw so) (promised.words_left ∙ rw so)
+            by_case (means.says d v path names words) z (promised.names_left ∙ rw so) (promised.words_left ∙ rw so)

@@ -45,15 +45,15 @@ module _ (d : List ℕ) where
   unfolding dictionary.verdict_within
   dictionary_said =
       by_meaning (λ x. Said (DictionarySays d) (words_of dictionary_shape x)) _ (dictionary-means.checks_mean d)
-      (λ g. let s = dictionary-fits.accepted-small d g in (omega arith, (λ w. omega arith), accepted g))
-      (λ c p due. let s = dictionary-fits.checks-code d (dictionary-refuses.is_due d due) in (omega arith, (λ w. omega arith), dictionary-refused s.0 s.1 due))
+      (λ g. let s = dictionary-fits.accepted_small d g in (omega arith, (λ w. omega arith), accepted g))
+      (λ c p due. let s = dictionary-fits.checks_code d (dictionary-refuses.is_due d due) in (omega arith, (λ w. omega arith), dictionary-refused s.0 s.1 due))
 
   pub name_said : (i : ℕ) → Said (NameSays d i) (name_at_words d i)
   name_said i =
       dictionary-names.by_answer d i (λ x. Said (NameSays d i) (words_of name_shape x))
-      (λ a e n. let s = dictionary-fits.name-small d i n.accepted n.is_entry in (omega arith, (λ w. omega arith), named n))
+      (λ a e n. let s = dictionary-fits.name_small d i n.accepted n.is_entry in (omega arith, (λ w. omega arith), named n))
       (λ n. (omega arith, (λ w. omega arith), no_entry n))
-      (λ c p due. let s = dictionary-fits.checks-code d (dictionary-refuses.is_due d due) in (omega arith, (λ w. omega arith), name-refused s.0 s.1 due))
+      (λ c p due. let s = dictionary-fits.checks_code d (dictionary-refuses.is_due d due) in (omega arith, (λ w. omega arith), name-refused s.0 s.1 due))
 
 module _ (d o : List ℕ) where
   pub layer_said : Said (LayerSays d o) (layer_words d o)
@@ -68,7 +68,7 @@ module _ (d o : List ℕ) where
       lookup.by_answer d o q (λ x. Said (LookupSays d o q) (words_of lookup_shape x))
       (λ k i a e f. let s = layer_small d o f.accepted in
       let t = child_small d o k f.accepted f.is_field in
-      let u = dictionary-fits.accepted-small d f.accepted.named.headed.placed.counted.typed.sized.over in (omega arith, (λ w. omega arith), found f))
+      let u = dictionary-fits.accepted_small d f.accepted.named.headed.placed.counted.typed.sized.over in (omega arith, (λ w. omega arith), found f))
       (λ a. (omega arith, (λ w. omega arith), absent a))
       (λ c p due. let s = checks_code d o (is_due d o due) in (omega arith, (λ w. omega arith), lookup-refused s.0 s.1 due))
 

@@ -110,7 +110,7 @@ module _ (d : List ℕ) where
 
   pub refusal_small : (v : List ℕ) {c p a : ℕ} → Refusal d v c p a → Small (length v) c p a × (a < 4294967296)
   unfolding limit
-  refusal_small v (of_dictionary r) = let b = dictionary-fits.checks-code d (dictionary-refuses.is_due d r) in (omega arith, omega arith)
+  refusal_small v (of_dictionary r) = let b = dictionary-fits.checks_code d (dictionary-refuses.is_due d r) in (omega arith, omega arith)
   refusal_small v (too_long g l) = (omega arith, omega arith)
   refusal_small v (of_value g l r) = let b = due_small r in (b, omega (arith, b))
 
@@ -134,7 +134,7 @@ module _ (d v : List ℕ) where
   tree_only _ (refused r) = ap (words_of tree_shape) ((refuses d v _ _ _).1 r)
 
   -- THE THEOREMS
-  module _ (marks strip : List ℕ) (code : ℕ) (after marksAfter : List ℕ) (promised : TreePromise d v marks strip code after marksAfter) where
+  module _ (marks strip : List ℕ) (code : ℕ) (after marks_after : List ℕ) (promised : TreePromise d v marks strip code after marks_after) where
     pub tree_tells : Tells (TreeSays d v) strip code after
     tree_tells = tells _ tree_shape (verdict d v) strip code after promised.strip_left tree_said
 
@@ -166,11 +166,11 @@ module _ (d v : List ℕ) where
         go (refused r) = (refusal_small d v r).0.inside
 
     -- THE MARKS
-    pub tree_clears : Clears marks code marksAfter
+    pub tree_clears : Clears marks code marks_after
     unfolding filled_after
     tree_clears = go (dec_lt (length strip) strip_bytes)
       where
-        go : Dec (length strip < strip_bytes) → Clears marks code marksAfter
+        go : Dec (length strip < strip_bytes) → Clears marks code marks_after
         go (yes h) = record {
           kept = λ _. promised.words_left ∙ rw (lt-ltb (length strip) strip_bytes h);
           none_left = λ m. absurd (m (tree_tells.no_strip.1 h));
@@ -181,14 +181,14 @@ module _ (d v : List ℕ) where
         }
 
 -- WHAT STANDS IN A TREE that got 0, given to a call by itself, with a strip that is long enough
-module _ (d v marks strip : List ℕ) (code : ℕ) (after marksAfter : List ℕ) (promised : TreePromise d v marks strip code after marksAfter) (z : code ≡ 0) where
+module _ (d v marks strip : List ℕ) (code : ℕ) (after marks_after : List ℕ) (promised : TreePromise d v marks strip code after marks_after) (z : code ≡ 0) where
   module _ (s : List ℕ) (inside : Inside v s) (room : List ℕ) (enough : strip_bytes ≤ length room) {c : ℕ} {left : List ℕ} where
     -- gets 0 as a tree, too
-    pub inside_good : (lent lentAfter : List ℕ) → TreePromise d s lent room c left lentAfter → c ≡ 0
-    inside_good lent lentAfter p =
-        let g = good_inside d v s (returned_good d v marks strip code after marksAfter promised z).0 inside in
-        let told = tree_tells d s lent room c left lentAfter p in
-        let words = (tree_exactly d s lent room c left lentAfter p enough _).1 (accepted g (own_length_law d s g)) in
+    pub inside_good : (lent lent_after : List ℕ) → TreePromise d s lent room c left lent_after → c ≡ 0
+    inside_good lent lent_after p =
+        let g = good_inside d v s (returned_good d v marks strip code after marks_after promised z).0 inside in
+        let told = tree_tells d s lent room c left lent_after p in
+        let words = (tree_exactly d s lent room c left lent_after p enough _).1 (accepted g (own_length_law d s g)) in
         sym (told.says (λ f. omega (arith, told.no_strip.0 f))).0 ∙ ap (λ l. get_or l 0 0) words
 
     -- and of an object each field is found by its name, with its number, its id and where its child stands
@@ -196,4 +196,4 @@ module _ (d v marks strip : List ℕ) (code : ℕ) (after marksAfter : List ℕ)
         → words_in left ≡ 0 ∷ k ∷ id s k ∷ child_start w s k ∷ end w s ∷ 0 ∷ []
     inside_found is k below p =
         carried lookup_shape (lookup d s (field_name d s k)) p enough (lookup_said d s (field_name d s k)).0
-        ∙ ap (words_of lookup_shape) (found_inside d v s (returned_good d v marks strip code after marksAfter promised z).0 inside is k below)
+        ∙ ap (words_of lookup_shape) (found_inside d v s (returned_good d v marks strip code after marks_after promised z).0 inside is k below)

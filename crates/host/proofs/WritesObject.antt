@@ -21,7 +21,7 @@ use Rattle.host.proofs.Exactly.{exactly}
 module _ (d bytes pairs room : List ℕ) (few : length pairs ≤ 4294967296) where
   -- which numbers there are, and that their places fit
   code_small : {c p : ℕ} → write.Refusal d bytes pairs room c p → (1 ≤ c) × (c < 47) × (c ≡ 40 → ⊥) × (p < 4294967296)
-  code_small (of_dictionary r) = let s = dictionary-fits.checks-code d (dictionary-refuses.is_due d r) in (omega arith, omega arith, (λ z. omega arith), omega arith)
+  code_small (of_dictionary r) = let s = dictionary-fits.checks_code d (dictionary-refuses.is_due d r) in (omega arith, omega arith, (λ z. omega arith), omega arith)
   code_small (no_entry o b) = (omega arith, omega arith, (λ z. omega arith), omega (arith, b.is_pair))
   code_small (double n b) = (omega arith, omega arith, (λ z. omega arith), omega (arith, b.inside))
   code_small (bad_range s b) = (omega arith, omega arith, (λ z. omega arith), omega (arith, b.is_pair))

@@ -36,7 +36,9 @@ use Rattle.fill.specs.Steps.{list_of}
 use Rattle.write.specs.Meaning as write
 use Rattle.builder.specs.Bytes as builder
 use Rattle.write_object.specs.Meaning as write-object
-use Rattle.strip.specs.Shapes.{refusal_words, words_of, lookup_shape, strip_bytes}
+use Rattle.pieces.specs.Meaning as pieces
+use Rattle.strip.specs.Shapes.{refusal_words, words_of, lookup_shape, dictionary_shape, strip_bytes}
+use Rattle.lichenhusk.specs.Promises.{FeedPromise}
 
 -- WHAT CODE, NUMBER, ID, START, END AND PLACE SAY, call by call
 
@@ -116,6 +118,16 @@ pub data WriteObjectSays (d bytes pairs room : List ℕ) : List ℕ → Type 0 w
   written : {n v b : ℕ} → write-object.Accepted d bytes pairs room n v b → WriteObjectSays d bytes pairs room (0 ∷ n ∷ 0 ∷ v ∷ b ∷ 0 ∷ [])
   refused : {c p : ℕ} → write-object.Refusal d bytes pairs room c p → WriteObjectSays d bytes pairs room (refusal_words c p)
 
+-- of a dictionary in pieces: what is answered to the bytes received, n of which there is room for
+pub data PiecesSay (n : ℕ) (got : List ℕ) : List ℕ → Type 0 where
+  says : {r : Answer} → pieces.Says n got r → PiecesSay n got (words_of dictionary_shape r)
+
+-- PIECES, ONE AFTER ANOTHER, from one strip and store to another: each step is whatever code, strip and store the call may leave
+pub data Runs : (strip store : List ℕ) → List (List ℕ) → (after left : List ℕ) → Type 0 where
+  no_more : {strip store : List ℕ} → Runs strip store [] strip store
+  one_more : {strip next after store mid left piece : List ℕ} {pieces : List (List ℕ)} {code : ℕ}
+      → FeedPromise store piece strip code next mid → Runs next mid pieces after left → Runs strip store (piece ∷ pieces) after left
+
 -- WHAT A CALL TELLS
 
 -- word k of a strip, as the host reads it
@@ -142,9 +154,9 @@ pub record FillsAll (d o names ends words : List ℕ) (code : ℕ) (words_after 
   pub kept : (code ≡ 0 → ⊥) → words_after ≡ words
 
 -- the marks lent to a tree's check: as they were with 40, and all 0 with any other code
-pub record Clears (marks : List ℕ) (code : ℕ) (marksAfter : List ℕ) : Type 0 where
-  pub kept : code ≡ 40 → marksAfter ≡ marks
-  pub none_left : (code ≡ 40 → ⊥) → marksAfter ≡ cleared marks
+pub record Clears (marks : List ℕ) (code : ℕ) (marks_after : List ℕ) : Type 0 where
+  pub kept : code ≡ 40 → marks_after ≡ marks
+  pub none_left : (code ≡ 40 → ⊥) → marks_after ≡ cleared marks
 
 -- the two buffers lent for a path: as they were with 40 and with the path's own refusals; with any other code they have its steps, and the rest
 -- of both stays

@@ -1,4 +1,6 @@
 // Keys of names: their first bytes as numbers, and whether names are the same whose keys are.
+#![tactic(auto)]
+
 ghost use Rattle.std.specs.Prelude.{◌≡◌, ◌≤◌, ◌<◌, length, get_or};
 ghost use Rattle.part.specs.Part.{part};
 ghost use Rattle.eights.specs.Steps.{be, Alike};

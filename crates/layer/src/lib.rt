@@ -1,4 +1,6 @@
 // The object layer's first bytes: its refusals, the numbers of its header, and a field's id and offset (object.rs: VariantObject).
+#![tactic(auto)]
+
 ghost use Rattle.std.specs.Prelude.{◌≡◌, ◌≤◌, ◌<◌};
 ghost use Rattle.layer.specs.Object.{count as count_of, id as id_of, offset as offset_of};
 ghost use Rattle.layer.specs.Steps.{LeadOf, LayerOf, HeadOf};
@@ -22,7 +24,7 @@ pub enum Refusal {
 }
 
 // The numbers that the first bytes hold, handed on by value so that nothing is parsed twice.
-#[derive(Drop)]
+#[derive(Clone, Copy)]
 pub struct Layer {
     pub id_width: usize,
     pub offset_width: usize,

@@ -51,7 +51,7 @@ pub record FoundPair (d bytes words e o : List ℕ) (k : ℕ) : Type 0 where
 pub record ReadBack (d bytes words e o : List ℕ) : Type 0 where
   pub accepted : verdict e o ≡ accept (pairs words ∷ builder.start d bytes words ∷ size d bytes words ∷ [])
   pub named : (j : ℕ) → j < pairs words → field_name e o j ≡ get_or (collect (pair_name d words) 0 (pairs words)) j []
-  pub in_order_law : Rising (field_name e o) (pairs words)
+  pub in_order : Rising (field_name e o) (pairs words)
   pub each_found : (k : ℕ) → k < pairs words → FoundPair d bytes words e o k
   pub none_else : (q : List ℕ) → ((k : ℕ) → k < pairs words → pair_name d words k ≡ q → ⊥) → lookup e o q ≡ absent
 
@@ -146,7 +146,7 @@ module _ (d bytes words : List ℕ) (good : GoodPairs d bytes words) (fits : siz
       record {
         accepted = (accepts d (object d bytes words) _ _ _).1 is_layer ∙ rw (read.counts, read.starts, read.ends);
         named = read.names;
-        in_order_law = names_rise;
+        in_order = names_rise;
         each_found = found_pair;
         none_else = none_found;
       }
@@ -176,7 +176,7 @@ module _ (d bytes words e t o u : List ℕ) (dictionary-limit : length (e ++ t) 
       record {
         accepted = verdict_appended e t o u dictionary-limit object-limit (rw back.accepted (settled (omega arith))) ∙ back.accepted;
         named = λ j p. name_same j p ∙ back.named j p;
-        in_order_law = λ i j p q. rw (name_same i (omega arith), name_same j q) (back.in_order_law i j p q);
+        in_order = λ i j p q. rw (name_same i (omega arith), name_same j q) (back.in_order i j p q);
         each_found = λ k p.
             let f = back.each_found k p in
             let name = pair_name d words k in

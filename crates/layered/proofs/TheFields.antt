@@ -16,12 +16,14 @@ use Rattle.layered.specs.Fields.{Among, TheFields}
 module _ (name : ℕ → List ℕ) where
   among_in : (k : ℕ) (ks : List ℕ) → Among k ks → In (name k) (labels name ks)
   unfolding labels
+  among_in k [] h = elim h [ ]
   among_in k (j ∷ ks) (inl e) = inl (ap name e)
   among_in k (j ∷ ks) (inr h) = inr (among_in k ks h)
 
   -- a name of some numbers is the name of one of them
   in_among : (x : List ℕ) (ks : List ℕ) (P : List ℕ → Type 0) → ((k : ℕ) → Among k ks → P (name k)) → In x (labels name ks) → P x
   unfolding labels
+  in_among x [] P h i = elim i [ ]
   in_among x (j ∷ ks) P h (inl e) = rw e (h j (inl refl))
   in_among x (j ∷ ks) P h (inr i) = in_among x ks P (λ k a. h k (inr a)) i
 
@@ -29,11 +31,13 @@ module _ (name : ℕ → List ℕ) where
     -- the numbers of some names are below n, and each name has its own among them
     numbers_below : (xs : List (List ℕ)) → ((x : List ℕ) → In x xs → Numbered name 0 n x) → (k : ℕ) → Among k (numbers_for name n xs) → k < n
     unfolding numbers_for
+    numbers_below [] h k i = elim i [ ]
     numbers_below (x ∷ xs) h k (inl e) = rw e (number_is name n x (h x (inl refl))).0
     numbers_below (x ∷ xs) h k (inr i) = numbers_below xs (λ y j. h y (inr j)) k i
 
     number_among : (x : List ℕ) (xs : List (List ℕ)) → In x xs → Among (number_of name n x) (numbers_for name n xs)
     unfolding numbers_for
+    number_among x [] i = elim i [ ]
     number_among x (y ∷ xs) (inl e) = inl (ap (number_of name n) e)
     number_among x (y ∷ xs) (inr i) = inr (number_among x xs i)
 

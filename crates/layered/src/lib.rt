@@ -1,1 +1,2 @@
 // Theorems only: see specs/Fields.antt and proofs/.
+#![tactic(auto)]

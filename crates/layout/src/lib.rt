@@ -1,10 +1,12 @@
 // What an object and a list have in common: a count, ids or none, offsets, and the region of the values.
+#![tactic(auto)]
+
 ghost use Rattle.std.specs.Prelude.{◌≡◌, ◌+◌, ◌≤◌, ◌<◌, length};
 ghost use Rattle.layout.specs.Layout.{count as count_of, offset as offset_of, start as start_of, end as end_of};
 ghost use Rattle.layout.specs.Steps.{Few, PlacesOf, NumbersOf, HeadOf};
 
 // What the header byte says: how many bytes the count has, an id (0 where there are none), and an offset.
-#[derive(Drop)]
+#[derive(Clone, Copy)]
 pub struct Widths {
     pub count: usize,
     pub id: usize,
@@ -12,7 +14,7 @@ pub struct Widths {
 }
 
 // The numbers of a layout whose checks passed: the count, where the offsets and the region start, and the trimmed end.
-#[derive(Drop)]
+#[derive(Clone, Copy)]
 pub struct Numbers {
     pub count: usize,
     pub offsets: usize,
@@ -29,7 +31,7 @@ pub enum Head {
     Good(Numbers),
 }
 
-#[derive(Drop)]
+#[derive(Clone, Copy)]
 struct Places {
     count: usize,
     offsets: usize,

@@ -1,4 +1,6 @@
 // The first byte of a character of UTF-8, by RFC 3629's table.
+#![tactic(auto)]
+
 ghost use Rattle.std.specs.Prelude.{◌≡◌};
 ghost use Rattle.leads.specs.Table.{lead_of};
 

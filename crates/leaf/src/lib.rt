@@ -1,4 +1,6 @@
 // Leaves, primitives and short strings: their length, and the text of strings (variant.rs: Variant; utils.rs: string_from_slice).
+#![tactic(auto)]
+
 ghost use Rattle.std.specs.Prelude.{◌≡◌, true, ◌+◌, ◌≤◌, ◌<◌, length};
 ghost use Rattle.part.specs.Part.{part};
 ghost use Rattle.chars.specs.Rfc3629.{Text};

@@ -47,8 +47,8 @@ module _ (s u : List ℕ) where
       (refl, refl, (λ f b. omega (arith, f b)), tt) & λ whole.
       let e = held_same t whole in omega arith & λ small. omega arith & λ inside. tt
   rules_kept (header.ShortString n) = let more = length-append s u in omega arith & λ small. omega arith & λ inside. tt
-  rules_kept (header.Object w) = layout-appended.rules-kept w s u lifted 1 2 4 refl refl refl
-  rules_kept (header.List w) = layout-appended.rules-kept w s u lifted 1 2 4 refl refl refl
+  rules_kept (header.Object w) = layout-appended.rules_kept w s u lifted 1 2 4 refl refl refl
+  rules_kept (header.List w) = layout-appended.rules_kept w s u lifted 1 2 4 refl refl refl
 
   pub bytes_same : (h : Header) → first (length_rules h s) ≡ pass → bytes_by h (s ++ u) ≡ bytes_by h s
   unfolding length_rules bytes_by
@@ -70,10 +70,10 @@ module _ (s u : List ℕ) where
       let p = passed (length_rules (header.ShortString n) (s ++ u)) e in
       (first_pass (length_rules (header.ShortString n) s) (p.0 & inside & tt), refl)
   bytes_shrink (header.Object w) e inside =
-      let p = layout-appended.rules-shrink w s u (omega (arith, passed (layout.rules 1 2 4 w (s ++ u)) e)) inside in
+      let p = layout-appended.rules_shrink w s u (omega (arith, passed (layout.rules 1 2 4 w (s ++ u)) e)) inside in
       (first_pass (layout.rules 1 2 4 w s) (omega (arith, p.0)), p.1)
   bytes_shrink (header.List w) e inside =
-      let p = layout-appended.rules-shrink w s u (omega (arith, passed (layout.rules 1 2 4 w (s ++ u)) e)) inside in
+      let p = layout-appended.rules_shrink w s u (omega (arith, passed (layout.rules 1 2 4 w (s ++ u)) e)) inside in
       (first_pass (layout.rules 1 2 4 w s) (omega (arith, p.0)), p.1)
 
 -- a settled answer's number is not lifted

@@ -1,4 +1,6 @@
 // How long a value's own encoding is, by its first bytes (variant.rs, decoder.rs).
+#![tactic(auto)]
+
 ghost use Rattle.std.specs.Prelude.{◌≡◌, ◌≤◌, length};
 ghost use Rattle.layout.specs.Steps.{Few};
 ghost use Rattle.encoding.specs.declared.Header.TheVariants as header;

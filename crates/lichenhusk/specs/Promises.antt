@@ -8,3 +8,4 @@ pub use Rattle.tree_call.specs.Promises.{TreePromise}
 pub use Rattle.path_call.specs.Promises.{PathPromise}
 pub use Rattle.write_call.specs.Promises.{WritePromise}
 pub use Rattle.write_object_call.specs.Promises.{WriteObjectPromise}
+pub use Rattle.pieces_call.specs.Promises.{BeginPromise, FeedPromise}

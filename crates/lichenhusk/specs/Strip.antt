@@ -7,4 +7,5 @@ pub use Rattle.tree_call.specs.Promises.{tree_words}
 pub use Rattle.path_call.specs.Promises.{path_words}
 pub use Rattle.write_call.specs.Promises.{write_words}
 pub use Rattle.write_object_call.specs.Promises.{write_object_words}
+pub use Rattle.pieces_call.specs.Promises.{code_in, wants_more, held_in, begin_words, feed_words}
 unfoldable pub use Rattle.strip.specs.Strip.{returned, strip_after, filled_after}

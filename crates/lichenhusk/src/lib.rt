@@ -1,22 +1,17 @@
-// What a host calls through C: each answer as a strip of six little-endian u32 (include/lichenhusk.h).
-ghost use Rattle.lichenhusk.specs.Promises.{LookupPromise, AllPromise, DictionaryPromise, NamePromise, LayerPromise, ListPromise, ValuePromise, TreePromise, PathPromise, WritePromise, WriteObjectPromise, EmptyPromise};
+// What a host calls: each answer as a strip of six little-endian u32. `lichenhusk_c` exports the same calls to C (include/lichenhusk.h).
+#![tactic(auto)]
+
+ghost use Rattle.lichenhusk.specs.Promises.{LookupPromise, AllPromise, DictionaryPromise, NamePromise, LayerPromise, ListPromise, ValuePromise, TreePromise, PathPromise, WritePromise, WriteObjectPromise, BeginPromise, FeedPromise, EmptyPromise};
 
 // Lookup by name: field, id, start, end.
-#[unsafe(no_mangle)]
-pub extern "C" fn lichenhusk_lookup(
-    dict: &[u8],
-    object: &[u8],
-    name: &[u8],
-    strip: &mut [u8],
-) -> u32
+pub fn lichenhusk_lookup(dict: &[u8], object: &[u8], name: &[u8], strip: &mut [u8]) -> u32
     ensures { LookupPromise dict.now object.now name.now strip.old result strip.new }
 {
     object_calls::lookup(dict, object, name, strip)
 }
 
 // Lookup of many names at one check: as the layer, and five words a name.
-#[unsafe(no_mangle)]
-pub extern "C" fn lichenhusk_lookup_all(
+pub fn lichenhusk_lookup_all(
     dict: &[u8],
     object: &[u8],
     names: &[u8],
@@ -30,66 +25,49 @@ pub extern "C" fn lichenhusk_lookup_all(
 }
 
 // Dictionary verdict: entry count, 0, 0, trimmed end.
-#[unsafe(no_mangle)]
-pub extern "C" fn lichenhusk_dictionary(dict: &[u8], strip: &mut [u8]) -> u32
+pub fn lichenhusk_dictionary(dict: &[u8], strip: &mut [u8]) -> u32
     ensures { DictionaryPromise dict.now strip.old result strip.new }
 {
     dictionary_calls::dictionary(dict, strip)
 }
 
 // Name by entry number: 0, 0, start, end.
-#[unsafe(no_mangle)]
-pub extern "C" fn lichenhusk_name(dict: &[u8], entry: usize, strip: &mut [u8]) -> u32
+pub fn lichenhusk_name(dict: &[u8], entry: usize, strip: &mut [u8]) -> u32
     ensures { NamePromise dict.now entry strip.old result strip.new }
 {
     dictionary_calls::name(dict, entry, strip)
 }
 
 // Layer verdict: field count, 0, region start, trimmed end.
-#[unsafe(no_mangle)]
-pub extern "C" fn lichenhusk_layer(dict: &[u8], object: &[u8], strip: &mut [u8]) -> u32
+pub fn lichenhusk_layer(dict: &[u8], object: &[u8], strip: &mut [u8]) -> u32
     ensures { LayerPromise dict.now object.now strip.old result strip.new }
 {
     object_calls::layer(dict, object, strip)
 }
 
 // Listing: as the layer, and the words filled.
-#[unsafe(no_mangle)]
-pub extern "C" fn lichenhusk_list(
-    dict: &[u8],
-    object: &[u8],
-    words: &mut [u32],
-    strip: &mut [u8],
-) -> u32
+pub fn lichenhusk_list(dict: &[u8], object: &[u8], words: &mut [u32], strip: &mut [u8]) -> u32
     ensures { ListPromise dict.now object.now words.old strip.old result strip.new words.new }
 {
     many_calls::list(dict, object, words, strip)
 }
 
 // A value: its kind, 0, and its 64 bits in two words, or the start and end of its bytes.
-#[unsafe(no_mangle)]
-pub extern "C" fn lichenhusk_value(value: &[u8], strip: &mut [u8]) -> u32
+pub fn lichenhusk_value(value: &[u8], strip: &mut [u8]) -> u32
     ensures { ValuePromise value.now strip.old result strip.new }
 {
     value_call::value(value, strip)
 }
 
 // A whole tree: 0, 0, 0, its own length; or a refusal with the start of the value that it is of. The marks, one a start, are all 0 afterwards.
-#[unsafe(no_mangle)]
-pub extern "C" fn lichenhusk_tree(
-    dict: &[u8],
-    value: &[u8],
-    marks: &mut [u8],
-    strip: &mut [u8],
-) -> u32
+pub fn lichenhusk_tree(dict: &[u8], value: &[u8], marks: &mut [u8], strip: &mut [u8]) -> u32
     ensures { TreePromise dict.now value.now marks.old strip.old result strip.new marks.new }
 {
     tree_call::tree(dict, value, marks, strip)
 }
 
 // By path: field or index, id, start and end of what stands there; names and words have the path's steps.
-#[unsafe(no_mangle)]
-pub extern "C" fn lichenhusk_path(
+pub fn lichenhusk_path(
     dict: &[u8],
     value: &[u8],
     path: &[u8],
@@ -103,8 +81,7 @@ pub extern "C" fn lichenhusk_path(
 }
 
 // A sorted dictionary from names, to the front of the room: how many, 0, 0, its length. `order` and `spare` are scratch.
-#[unsafe(no_mangle)]
-pub extern "C" fn lichenhusk_write_dictionary(
+pub fn lichenhusk_write_dictionary(
     run: &[u8],
     ends: &[u32],
     order: &mut [u32],
@@ -119,8 +96,7 @@ pub extern "C" fn lichenhusk_write_dictionary(
 
 // An object layer from pairs over a dictionary, to the front of the room: field count, 0, region start, its length. `order` and `spare` are
 // scratch.
-#[unsafe(no_mangle)]
-pub extern "C" fn lichenhusk_write_object(
+pub fn lichenhusk_write_object(
     dict: &[u8],
     bytes: &[u8],
     pairs: &[u32],
@@ -134,9 +110,22 @@ pub extern "C" fn lichenhusk_write_object(
     write_object_call::write_object(dict, bytes, pairs, order, spare, room, strip)
 }
 
+// The first state of a dictionary that comes in pieces, into the strip: 3, the bytes held, 0, 0, the bytes wanted.
+pub fn lichenhusk_begin(strip: &mut [u8]) -> u32
+    ensures { BeginPromise strip.old result strip.new }
+{
+    pieces_call::begin(strip)
+}
+
+// One piece, copied into the store after those before it. The strip is the state: 3 as above, or the dictionary's words, or 44, which stay.
+pub fn lichenhusk_feed(store: &mut [u8], piece: &[u8], strip: &mut [u8]) -> u32
+    ensures { FeedPromise store.old piece.now strip.old result strip.new store.new }
+{
+    pieces_call::feed(store, piece, strip)
+}
+
 // The empty dictionary: 0, or 42 below three bytes of room.
-#[unsafe(no_mangle)]
-pub extern "C" fn lichenhusk_empty(room: &mut [u8]) -> u32
+pub fn lichenhusk_empty(room: &mut [u8]) -> u32
     ensures { EmptyPromise room.old result room.new }
 {
     dictionary_calls::empty(room)

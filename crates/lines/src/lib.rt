@@ -1,10 +1,13 @@
 // Lines of standard input, into a room that may be shorter than they are.
-ghost use Rattle.std.specs.Prelude.{◌≤◌, length};
+#![tactic(auto)]
 
-use libc::{STDIN_FILENO, STDOUT_FILENO};
+ghost use Rattle.std.specs.Prelude.{◌≤◌, length, IfOk};
+
+use std::io;
+use std::io::Read as Reader;
 
 // What was read and not yet taken: the bytes of the chunk from `at` to `have`.
-#[derive(Drop)]
+#[derive(Clone, Copy)]
 pub struct Source {
     at: usize,
     have: usize,
@@ -19,34 +22,29 @@ pub fn start() -> Source {
 enum Next {
     Byte { b: u8, source: Source },
     End,
-    Failed,
 }
 
-fn take(chunk: &mut [u8], s: Source) -> Next {
+fn take(rt: &impl Input, chunk: &mut [u8], s: Source) -> io::Result<Next> {
     let at = s.at;
     if at < s.have {
         if at < chunk.len() {
-            return Next::Byte {
+            return Ok(Next::Byte {
                 b: chunk[at],
                 source: Source {
                     at: at + 1,
                     have: s.have,
                 },
-            };
+            });
         }
     }
-    let got = libc::read(STDIN_FILENO, chunk);
-    if got < 0 {
-        return Next::Failed;
-    }
-    let have = io::count(got, chunk);
+    let have = rt.reader().read(chunk)?;
     if have == 0 {
-        return Next::End;
+        return Ok(Next::End);
     }
-    Next::Byte {
+    Ok(Next::Byte {
         b: chunk[0],
         source: Source { at: 1, have },
-    }
+    })
 }
 
 // A line: its first `len` bytes are in the room lent. It is long where there were more, and the last where the input ended. Of a line that
@@ -90,32 +88,32 @@ fn ended(len: usize, long: bool, last: bool, source: Source) -> Read
 }
 
 // Why standard input cannot be read, on a line of its answers.
-fn failed() {
-    files::input_failed(STDOUT_FILENO, b"? ");
+fn failed(rt: &impl Print, error: &io::Error) -> io::Result<()> {
+    files::input_failed(&mut io::writer(rt), b"? ", error)
 }
 
-pub fn read_line(chunk: &mut [u8], line: &mut [u8], from: Source) -> Read
-    ensures { result.len ≤ length line.new }
+pub fn read_line(
+    rt: &(impl Input + Print),
+    chunk: &mut [u8],
+    line: &mut [u8],
+    from: Source,
+) -> io::Result<Read>
+    ensures { IfOk result (λ read. read.len ≤ length line.new) }
 {
     let mut source = from;
     let mut len: usize = 0;
     let mut long = false;
-    let mut turns = u64::MAX;
-    while turns > 0 {
-        turns -= 1;
-        let n = take(chunk, source);
-        match n {
-            Next::Failed => {
-                failed();
-                return ended(0, false, true, source);
+    for _ in 0..u64::MAX {
+        match take(rt, chunk, source) {
+            Err(error) => {
+                failed(rt, &error)?;
+                return Ok(ended(0, false, true, source));
             }
-            Next::End => {
-                return ended(len, long, true, source);
-            }
-            Next::Byte { b, source: s } => {
+            Ok(Next::End) => return Ok(ended(len, long, true, source)),
+            Ok(Next::Byte { b, source: s }) => {
                 source = s;
                 if b == b'\n' {
-                    return ended(len, long, false, source);
+                    return Ok(ended(len, long, false, source));
                 }
                 let before = len;
                 len = put(line, len, b);
@@ -123,5 +121,5 @@ pub fn read_line(chunk: &mut [u8], line: &mut [u8], from: Source) -> Read
             }
         }
     }
-    ended(len, long, true, source)
+    Ok(ended(len, long, true, source))
 }

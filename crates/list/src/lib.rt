@@ -1,4 +1,6 @@
 // The list layer: its checks, and where an element stands (list.rs: VariantList).
+#![tactic(auto)]
+
 ghost use Rattle.std.specs.Prelude.{◌≡◌, ◌<◌};
 ghost use Rattle.rules.specs.Rules.{first, each};
 ghost use Rattle.layout.specs.Layout.{count as count_of};
@@ -30,7 +32,7 @@ enum Outcome {
 }
 
 // Where an element stands, counted from the list's first byte.
-#[derive(Drop)]
+#[derive(Clone, Copy)]
 pub struct Span {
     pub start: usize,
     pub end: usize,

@@ -1,7 +1,7 @@
 -- What the code's own answers say: each case of what `list` returns with what it leaves in the words, exactly when, in the words of
 -- specs/Meaning.antt. An answer that meets the promise is meant. Assumes nothing.
 use Rattle.rules.proofs.Prelude.{◌≡◌, sym, ◌∙◌, true, false, ◌↔◌, List, ◌++◌, ℕ, ◌*◌, drop, false_true}
-use Rattle.metadata.proofs.Pinned.{refusal_by as dictionaryBy}
+use Rattle.metadata.proofs.Pinned.{refusal_by as dictionary_by}
 use Rattle.layer.specs.declared.Refusal.{Refusal}
 use Rattle.layer.specs.Answers.{refusal_number, refusal_place}
 use Rattle.layer.specs.Meaning.{Refusal as Due}
@@ -14,11 +14,11 @@ use Rattle.listing.proofs.Lists.{words_listed, words_stay, no_length_stops, no_r
 
 -- no case of a refusal has a number of the listing's own
 not_41 : (r : Refusal) → refusal_number r ≡ 41 → ⊥
-unfolding refusal_by dictionaryBy
+unfolding refusal_by dictionary_by
 not_41 r e = false_true (rw e at (refusal_back (λ _. true) false r))
 
 not_43 : (r : Refusal) → refusal_number r ≡ 43 → ⊥
-unfolding refusal_by dictionaryBy
+unfolding refusal_by dictionary_by
 not_43 r e = false_true (rw e at (refusal_back (λ _. true) false r))
 
 module _ (d o w after : List ℕ) where

@@ -1,4 +1,6 @@
 // The listing of an object's fields into lent words.
+#![tactic(auto)]
+
 ghost use Rattle.std.specs.Prelude.{◌≡◌, ◌&&◌, ◌++◌, ℕ, ◌*◌, ◌≤◌, ◌<◌, length, drop};
 ghost use Rattle.rules.specs.Rules.{first, each};
 ghost use Rattle.lengths.specs.Lengths.{own_length};
@@ -36,7 +38,7 @@ fn own_length(object: &[u8], l: Layer, k: usize) -> lengths::Length
 }
 
 // What the measuring of all children comes to.
-#[derive(Drop)]
+#[derive(Clone, Copy)]
 enum Measured {
     NoLength(usize),
     All,

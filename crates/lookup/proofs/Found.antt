@@ -15,7 +15,7 @@ use Rattle.object.proofs.Means.{checks_mean}
 use Rattle.object.proofs.Accepts.{all_pass}
 use Rattle.object.proofs.Refuses.{is_due}
 use Rattle.object.proofs.Fits.{checks_code}
-use Rattle.lookup.specs.ByName.{absent, found as foundFor, lookup, lookup_within, start_of, end_of}
+use Rattle.lookup.specs.ByName.{absent, found as found_for, lookup, lookup_within, start_of, end_of}
 use Rattle.lookup.specs.Meaning.{Found, Absent, Spells}
 use Rattle.lookup.specs.Meaning.Spells.{spells}
 
@@ -45,13 +45,13 @@ module _ (d o q : List ℕ) where
   unfolding lookup_within
   by_answer P is_found is_absent is_refused = by_meaning P _ (checks_mean d o) (λ g. go g (seek (field_name d o) q (count o)) refl) is_refused
     where
-      go : Good → (s : Sought) → seek (field_name d o) q (count o) ≡ s → P (foundFor o s)
+      go : Good → (s : Sought) → seek (field_name d o) q (count o) ≡ s → P (found_for o s)
       go g nowhere e = is_absent (record { accepted = g; no_field = names.seek_nowhere (field_name d o) q (count o) e })
       go g (here k) e = let at = names.seek_at (field_name d o) q (count o) k e in is_found k _ _ _ (by_name g k at.0 at.1)
 
   -- FOUND
-  is_there_law : (k i a e : ℕ) → lookup d o q ≡ accept (k ∷ i ∷ a ∷ e ∷ []) → Found d o q k i a e
-  is_there_law k i a e =
+  is_there : (k i a e : ℕ) → lookup d o q ≡ accept (k ∷ i ∷ a ∷ e ∷ []) → Found d o q k i a e
+  is_there k i a e =
       by_answer (λ x. x ≡ accept (k ∷ i ∷ a ∷ e ∷ []) → Found d o q k i a e)
       (λ j h b f is w. let k-is : j ≡ k = cc in let i-is : h ≡ i = cc in let a-is : b ≡ a = cc in let e-is : f ≡ e = cc in rw (k-is, i-is, a-is, e-is) at is)
       (λ _ w. let z : ◌≡◌ {A = ℕ} 0 1 = cc in absurd (omega arith))
@@ -84,12 +84,12 @@ module _ (d o q : List ℕ) where
 
   -- THE THEOREMS
   pub found : (k i a e : ℕ) → (lookup d o q ≡ accept (k ∷ i ∷ a ∷ e ∷ [])) ↔ Found d o q k i a e
-  found k i a e = (is_there_law k i a e, is_found k i a e)
+  found k i a e = (is_there k i a e, is_found k i a e)
 
   -- the same without what follows: an accepted layer, a field of it, its name
   pub found_at : (k : ℕ) → (lookup d o q ≡ accept (k ∷ id o k ∷ (start o + offset o k) ∷ end o ∷ [])) ↔ (Good × (k < count o) × (field_name d o k ≡ q))
   found_at k =
-      (λ e. let f = is_there_law k _ _ _ e in (f.accepted, f.is_field, f.is_name), λ h. is_found k _ _ _ (by_name h.0 k h.1 h.2))
+      (λ e. let f = is_there k _ _ _ e in (f.accepted, f.is_field, f.is_name), λ h. is_found k _ _ _ (by_name h.0 k h.1 h.2))
 
   pub absent_is : (lookup d o q ≡ absent) ↔ Absent d o q
   absent_is = (none_there, is_absent)

@@ -2,7 +2,7 @@
 -- two cases have the same. Assumes nothing.
 use Rattle.rules.proofs.Prelude.{◌≡◌, refl, sym, ◌∙◌, List, [], ◌∷◌, ℕ, Answer, gives}
 use denote.Ref.{Bor}
-use Rattle.metadata.proofs.Pinned.{refusal_by as dictionaryBy, by_back}
+use Rattle.metadata.proofs.Pinned.{refusal_by as dictionary_by, by_back}
 use Rattle.object.proofs.Pinned.{refusal_by, refusal_back}
 use Rattle.lookup.specs.declared.Lookup.{Lookup}
 use Rattle.lookup.specs.declared.Lookup.TheVariants as lookup
@@ -17,7 +17,7 @@ lookup_back (gives c (k ∷ []) p) = lookup.Absent
 lookup_back (gives c [] p) = refusal_by lookup.Refused lookup.Absent c p
 
 lookup_back_law : (v : Lookup) → lookup_back (lookup_numbers v) ≡ v
-unfolding lookup_back refusal_by dictionaryBy
+unfolding lookup_back refusal_by dictionary_by
 lookup_back_law (lookup.Refused r) = refusal_back lookup.Refused lookup.Absent r
 lookup_back_law lookup.Absent = refl
 lookup_back_law (lookup.Found k i a e) = refl

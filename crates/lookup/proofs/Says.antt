@@ -7,7 +7,7 @@ use Rattle.part.proofs.Laws.{part_length}
 use Rattle.metadata.specs.declared.Entry.{Entry}
 use Rattle.metadata.specs.Answers.{entry_numbers}
 use Rattle.metadata.specs.Promises.{GetPromise as NamePromise}
-use Rattle.metadata.proofs.Pinned.{refusal_by as dictionaryBy}
+use Rattle.metadata.proofs.Pinned.{refusal_by as dictionary_by}
 use Rattle.layer.specs.declared.Refusal.{Refusal}
 use Rattle.layer.specs.Answers.{refusal_number, refusal_place}
 use Rattle.layer.specs.Meaning.{Refusal as Due}
@@ -23,7 +23,7 @@ use Rattle.lookup.proofs.Found.{by_answer, found, absent_is, refused_is, found_i
 
 -- no case of a refusal has the number of "absent"
 not_absent : (r : Refusal) → refusal_number r ≡ 1 → ⊥
-unfolding refusal_by dictionaryBy
+unfolding refusal_by dictionary_by
 not_absent r e = false_true (rw e at (refusal_back (λ _. true) false r))
 
 -- `get`

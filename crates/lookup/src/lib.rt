@@ -1,8 +1,10 @@
 // Lookup by name over a checked object layer, and the child as a part of the object (object.rs: VariantObject::get).
+#![tactic(auto)]
+
 ghost use Rattle.std.specs.Prelude.{◌≡◌, ◌+◌, ◌≤◌, ◌<◌};
 ghost use Rattle.names.specs.Order.{compare_of};
 ghost use Rattle.names.specs.Search.{seek};
-ghost use Rattle.layer.specs.Object.{count as count_of, offset as offset_of, start as regionStart, end as trimmedEnd, field_name};
+ghost use Rattle.layer.specs.Object.{count as count_of, offset as offset_of, start as region_start, end as trimmed_end, field_name};
 ghost use Rattle.layer.specs.Steps.{LayerOf};
 ghost use Rattle.fields.specs.Steps.{Over};
 ghost use Rattle.object.specs.Steps.{Opened};
@@ -80,7 +82,7 @@ pub fn find(
     Search::Nowhere
 }
 
-#[derive(Drop)]
+#[derive(Clone, Copy)]
 pub struct Place {
     pub start: usize,
     pub end: usize,
@@ -88,8 +90,8 @@ pub struct Place {
 
 // Where field k's child lies: from its offset to the trimmed end, wherever the next field starts.
 pub fn field_place(object: &[u8], l: Layer, k: usize) -> Place
-    requires { LayerOf object.now l × (k < count_of object.now) × (regionStart object.now + offset_of object.now k ≤ trimmedEnd object.now) }
-    ensures { (result.start ≡ regionStart object.now + offset_of object.now k) × (result.end ≡ trimmedEnd object.now) }
+    requires { LayerOf object.now l × (k < count_of object.now) × (region_start object.now + offset_of object.now k ≤ trimmed_end object.now) }
+    ensures { (result.start ≡ region_start object.now + offset_of object.now k) × (result.end ≡ trimmed_end object.now) }
 {
     Place {
         start: l.start + layer::offset_at(object, l, k),

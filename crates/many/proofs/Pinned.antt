@@ -1,7 +1,7 @@
 -- The promise of `get_all` fixes its whole answer, and the lent words after it: two answers that meet it are equal. Answers are read back
 -- out of their numbers, so no two cases have the same. Assumes nothing.
 use Rattle.rules.proofs.Prelude.{◌≡◌, refl, sym, ◌∙◌, cond, List, [], ◌∷◌, ℕ, eqb, Answer, gives}
-use Rattle.metadata.proofs.Pinned.{refusal_by as dictionaryBy, by_back}
+use Rattle.metadata.proofs.Pinned.{refusal_by as dictionary_by, by_back}
 use Rattle.object.proofs.Pinned.{refusal_by, refusal_back}
 use Rattle.many.specs.declared.Lookups.{Lookups}
 use Rattle.many.specs.declared.Lookups.TheVariants as lookups
@@ -16,7 +16,7 @@ lookups_back (gives c (n ∷ []) p) = lookups.NoRoom
 lookups_back (gives c [] p) = refusal_by lookups.Refused (cond (eqb c 45) (lookups.BadEnd p) lookups.NoRoom) c p
 
 lookups_back_law : (v : Lookups) → lookups_back (lookups_numbers v) ≡ v
-unfolding lookups_back refusal_by dictionaryBy
+unfolding lookups_back refusal_by dictionary_by
 lookups_back_law (lookups.BadEnd k) = refl
 lookups_back_law (lookups.Refused r) = refusal_back lookups.Refused _ r
 lookups_back_law lookups.NoRoom = refl

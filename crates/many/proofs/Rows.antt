@@ -31,7 +31,7 @@ pub row_five : (d o names ends : List ℕ) (k : ℕ) → length (row d o names e
 unfolding row_within
 row_five d o names ends k = five (lookup d o (name names ends k))
 
-pub one_more_law : (d o names ends lent : List ℕ) {words : List ℕ} (k at : ℕ) (q : List ℕ) → words ≡ each (row d o names ends) k ++ drop at lent → at ≡ 5 * k
+pub one_more : (d o names ends lent : List ℕ) {words : List ℕ} (k at : ℕ) (q : List ℕ) → words ≡ each (row d o names ends) k ++ drop at lent → at ≡ 5 * k
     → at + 5 ≤ length lent → q ≡ name names ends k → sets words at (row_of (lookup d o q)) ≡ each (row d o names ends) (k + 1) ++ drop (at + 5) lent
 unfolding row_within
-one_more_law d o names ends lent {words} k at q e a h is = rw is (rows_more (row d o names ends) 5 (row_five d o names ends) lent words k at e a h)
+one_more d o names ends lent {words} k at q e a h is = rw is (rows_more (row d o names ends) 5 (row_five d o names ends) lent words k at e a h)

@@ -3,7 +3,7 @@
 use Rattle.rules.proofs.Prelude.{◌≡◌, sym, ◌∙◌, true, false, ◌↔◌, List, ◌++◌, ℕ, ◌*◌, ◌<◌, length, drop, each, false_true}
 use Rattle.run.specs.Run.{name}
 use Rattle.run.specs.Meaning.{BadEnd}
-use Rattle.metadata.proofs.Pinned.{refusal_by as dictionaryBy}
+use Rattle.metadata.proofs.Pinned.{refusal_by as dictionary_by}
 use Rattle.layer.specs.declared.Refusal.{Refusal}
 use Rattle.layer.specs.Answers.{refusal_number, refusal_place}
 use Rattle.object.proofs.Pinned.{refusal_by, refusal_back}
@@ -20,11 +20,11 @@ use Rattle.many.proofs.AllRows.{row_of_get}
 
 -- `get_all`, with what it leaves in the words. No case of a refusal has the number 41 or 45
 not_41 : (r : Refusal) → refusal_number r ≡ 41 → ⊥
-unfolding refusal_by dictionaryBy
+unfolding refusal_by dictionary_by
 not_41 r e = false_true (rw e at (refusal_back (λ _. true) false r))
 
 not_45 : (r : Refusal) → refusal_number r ≡ 45 → ⊥
-unfolding refusal_by dictionaryBy
+unfolding refusal_by dictionary_by
 not_45 r e = false_true (rw e at (refusal_back (λ _. true) false r))
 
 module _ (d o names ends words after : List ℕ) where

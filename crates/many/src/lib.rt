@@ -1,4 +1,6 @@
 // Lookup of many names at one check of the layer: five words a name.
+#![tactic(auto)]
+
 ghost use Rattle.std.specs.Prelude.{◌≡◌, ◌++◌, ◌*◌, ◌≤◌, length, drop};
 ghost use Rattle.rules.specs.Rules.{each};
 ghost use Rattle.run.specs.Meaning.{GoodEnds};

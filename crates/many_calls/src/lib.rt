@@ -1,4 +1,6 @@
 // The calls that fill lent words from one layer: its listing, and many names at one check. Each is `lichenhusk`'s by one line, and its promise is proved here.
+#![tactic(auto)]
+
 ghost use Rattle.many_calls.specs.Promises.{ListPromise, AllPromise};
 
 use strip::STRIP;

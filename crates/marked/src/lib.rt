@@ -1,4 +1,6 @@
 // The full check of a value over a dictionary and over marks that are all 0 (variant.rs: with_full_validation).
+#![tactic(auto)]
+
 ghost use Rattle.std.specs.Prelude.{◌≡◌, ◌-◌};
 ghost use Rattle.marks.specs.Marks.{cleared};
 ghost use Rattle.nodes.specs.Tree.{levels};

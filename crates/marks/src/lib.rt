@@ -1,4 +1,6 @@
 // Marks: lent bytes, one for a place. Where none is lent for a place, none is kept, and it reads as 0.
+#![tactic(auto)]
+
 ghost use Rattle.std.specs.Prelude.{◌≡◌, ℕ, ◌≤◌, ◌<◌, get_or, set};
 ghost use Rattle.marks.specs.Marks.{cleared};
 

@@ -1,4 +1,6 @@
 // The metadata dictionary: its verdict, a name by entry number, and the empty one (metadata.rs: VariantMetadata).
+#![tactic(auto)]
+
 ghost use Rattle.std.specs.Prelude.{◌<◌};
 ghost use Rattle.dictionary.specs.Dictionary.{count as count_of};
 ghost use Rattle.metadata.specs.Steps.{CheckedOf, SpanOf};
@@ -14,7 +16,7 @@ pub enum Verdict {
 }
 
 // Where a name stands, counted from the dictionary's first byte.
-#[derive(Drop)]
+#[derive(Clone, Copy)]
 pub struct Span {
     pub start: usize,
     pub end: usize,

@@ -1,4 +1,6 @@
 // Names in order, as the Rust compares `str`: byte by byte, unsigned, and a proper prefix first.
+#![tactic(auto)]
+
 ghost use Rattle.std.specs.Prelude.{◌≡◌, min, length};
 ghost use Rattle.names.specs.Steps.{order_of};
 ghost use Rattle.names.specs.Promises.{ComparePromise, IsBelowPromise};

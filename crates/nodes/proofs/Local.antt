@@ -52,7 +52,7 @@ module _ (d : List ℕ) (over : dictionary.checks d ≡ pass) (s u : List ℕ) (
     counts = layout-appended.count_same w s u (omega arith)
 
     starts : (k : ℕ) → k ≤ count w s → child_start w (s ++ u) k ≡ child_start w s k
-    starts k q = rw (layout-appended.start-same w s u (omega arith), layout-appended.offset-same w s u (omega arith) k q)
+    starts k q = rw (layout-appended.start_same w s u (omega arith), layout-appended.offset_same w s u (omega arith) k q)
 
     child_same : (high high' : ℕ → ℕ) (k : ℕ) → k < count w s → high' k ≡ high k → child_start w s k ≤ high k → high k ≤ length s
         → child_of w (s ++ u) high' k ≡ child_of w s high k
@@ -79,7 +79,7 @@ module _ (d : List ℕ) (over : dictionary.checks d ≡ pass) (s u : List ℕ) (
       let l = list_header s h own in
       tree_list d (s ++ u) n (head_same ∙ h)
       ∙ layered_alike (tree d n) (tree d n) w w s (s ++ u) (element_end w s) (element_end w (s ++ u)) (list.checks w s) (list.checks w (s ++ u))
-      (list-appended.checks-same w s u l)
+      (list-appended.checks_same w s u l)
       (λ o. (
         counts w l,
         λ k q. (

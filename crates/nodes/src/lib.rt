@@ -1,4 +1,6 @@
 // What the check of a tree is made of: what it comes to, what is remembered, leaves, and where a container's children stand.
+#![tactic(auto)]
+
 ghost use Rattle.std.specs.Prelude.{◌≡◌, ◌≤◌, ◌<◌, length};
 ghost use Rattle.part.specs.Part.{part};
 ghost use Rattle.layout.specs.Layout.{count as count_of};
@@ -28,7 +30,7 @@ pub enum Finding {
 }
 
 // An object or a list whose own checks passed: the numbers of its header.
-#[derive(Drop)]
+#[derive(Clone, Copy)]
 pub struct Container {
     pub widths: layout::Widths,
     pub numbers: layout::Numbers,

@@ -1,4 +1,6 @@
 // Signed numbers of one, two, four and eight bytes, little-endian (decoder.rs: decode_int8 to decode_int64).
+#![tactic(auto)]
+
 ghost use Rattle.std.specs.Prelude.{◌+◌, ◌≤◌, length};
 ghost use Rattle.number.specs.Promises.{SignedPromise};
 

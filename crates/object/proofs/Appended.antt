@@ -151,7 +151,7 @@ module _ (d t o u : List ℕ) where
       unfolding field_name
       field_same k p i =
           let g = dictionary-means.good d over in
-          rw (id_same o u placed k p, dictionary-appended.name-same d t (omega arith) (id o k) i)
+          rw (id_same o u placed k p, dictionary-appended.name_same d t (omega arith) (id o k) i)
 
       -- a field's row is the same where the id before is an entry
       name_kept : (k : ℕ) → k < count o → (0 < k → id o (k - 1) < dictionary.count d) → Kept (λ _. false) (name_rules d o k) (name_rules (d ++ t) (o ++ u) k)
@@ -189,7 +189,7 @@ module _ (d t o u : List ℕ) where
     unfolding checks_within
     checks_kept =
         stays_then lifted (dictionary.checks d) (dictionary.checks (d ++ t)) (own d o) (own (d ++ t) (o ++ u))
-        (stays_more dictionary-appended.lifted lifted (dictionary.checks d) _ (λ c e. (neither _ (lifted_here c) e).0) (dictionary-appended.checks-kept d t dictionary-limit)) λ over.
+        (stays_more dictionary-appended.lifted lifted (dictionary.checks d) _ (λ c e. (neither _ (lifted_here c) e).0) (dictionary-appended.checks_kept d t dictionary-limit)) λ over.
         stays_more lifted_here lifted (own d o) _ (λ c e. (neither (dictionary-appended.lifted c) _ e).1) (own_kept over object-limit)
 
     -- THE VERDICT
@@ -215,6 +215,6 @@ module _ (d t o u : List ℕ) where
     open_appended (opening.Open m) (opening.Open m') s a b =
         let was = dictionary-variants.Good m.header in
         let is = dictionary-variants.Good m'.header in
-        let heads : is ≡ was = dictionary-appended.checked-appended d t was is dictionary-limit never never a.over b.over in
+        let heads : is ≡ was = dictionary-appended.checked_appended d t was is dictionary-limit never never a.over b.over in
         let g = good d o a.passes in
         ap opening.Open (message_by m' m (cc) (layer_kept m.layer m'.layer (omega arith) a.layered b.layered))

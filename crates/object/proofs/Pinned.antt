@@ -2,7 +2,7 @@
 -- out of document 01's numbers, so no two cases have the same. Assumes nothing.
 use Rattle.rules.proofs.Prelude.{◌≡◌, refl, sym, ap, ap₂, ◌∙◌, cond, List, [], ◌∷◌, ℕ, arith, eqb, Answer, gives}
 use Rattle.dictionary.specs.declared.Head.TheVariants as dictionary-head
-use Rattle.metadata.proofs.Pinned.{refusal_by as dictionaryBy, refusal_back as dictionary-back, by_back, checked_pinned}
+use Rattle.metadata.proofs.Pinned.{refusal_by as dictionary_by, refusal_back as dictionary-back, by_back, checked_pinned}
 use Rattle.layer.specs.declared.Refusal.{Refusal}
 use Rattle.layer.specs.declared.Refusal.TheVariants.{Dictionary, TooLong, Empty, BasicType, Short, Sum, NoSuchEntry, NotAbove, Offset, EmptyChild}
 use Rattle.layer.specs.declared.Layer.{Layer}
@@ -23,7 +23,7 @@ use Rattle.object.specs.Steps.{CheckedOf, MessageOf, OpeningOf}
 -- REFUSALS: number and place, read back; `other` where the number is none of theirs
 unfoldable pub refusal_by : {A : Type 0} → (Refusal → A) → A → ℕ → ℕ → A
 refusal_by is other c p =
-    dictionaryBy (λ r. is (Dictionary r))
+    dictionary_by (λ r. is (Dictionary r))
     (cond (eqb c 20) (is TooLong)
     (cond (eqb c 21) (is Empty)
     (cond (eqb c 22) (is BasicType)
@@ -34,7 +34,7 @@ refusal_by is other c p =
     c p
 
 pub refusal_back : {A : Type 0} (is : Refusal → A) (other : A) (r : Refusal) → refusal_by is other (refusal_number r) (refusal_place r) ≡ is r
-unfolding refusal_by dictionaryBy
+unfolding refusal_by dictionary_by
 refusal_back is other (Dictionary r) = dictionary-back (λ x. is (Dictionary x)) _ r
 refusal_back is other TooLong = refl
 refusal_back is other Empty = refl

@@ -19,7 +19,7 @@ module _ (a b : ℕ) (d o : List ℕ) (in-a : Within a d o) (in_b : Within b d o
 
   pub checks_alike : checks_within a d o ≡ checks_within b d o
   unfolding checks_within
-  checks_alike = rw (dictionary-raised.checks-alike a b d in-a.0 in_b.0, head_alike)
+  checks_alike = rw (dictionary-raised.checks_alike a b d in-a.0 in_b.0, head_alike)
 
   pub verdict_alike : verdict_within a d o ≡ verdict_within b d o
   unfolding verdict_within

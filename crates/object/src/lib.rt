@@ -1,4 +1,6 @@
 // The object layer over a dictionary: its verdict, and its numbers for the layers above (object.rs: VariantObject).
+#![tactic(auto)]
+
 ghost use Rattle.fields.specs.Steps.{Over};
 ghost use Rattle.object.specs.Promises.{CheckPromise};
 ghost use Rattle.object.specs.Steps.{CheckedOf, OpeningOf};
@@ -18,7 +20,7 @@ pub enum Verdict {
 }
 
 // A dictionary and an object that passed all checks.
-#[derive(Drop)]
+#[derive(Clone, Copy)]
 pub struct Message {
     pub header: dictionary::Header,
     pub layer: Layer,

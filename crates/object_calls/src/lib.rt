@@ -1,4 +1,6 @@
 // The calls of one layer: its verdict, and a field by its name. Each is `lichenhusk`'s by one line, and its promise is proved here.
+#![tactic(auto)]
+
 ghost use Rattle.object_calls.specs.Promises.{LayerPromise, LookupPromise};
 
 use strip::STRIP;

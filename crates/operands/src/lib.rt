@@ -1,5 +1,7 @@
 // The words of a question after its verb: bytes in hex, `-` for none, into rooms lent; then numbers.
-ghost use Rattle.std.specs.Prelude.{◌≤◌, length};
+#![tactic(auto)]
+
+ghost use Rattle.std.specs.Prelude.{◌≡◌, ◌≤◌, ◌<◌, min, length};
 
 use crate::faults::{MANY_NUMBERS, MISSING, NO_NUMBER, TOO_MANY};
 use text::{Numeral, hex, number, word};
@@ -7,15 +9,15 @@ use text::{Numeral, hex, number, word};
 pub mod faults;
 
 // A word that was read: how many bytes it spells, or its number; where the text goes on; and the fault or 0.
-#[derive(Drop)]
-struct Operand {
-    fault: usize,
-    len: usize,
-    next: usize,
+#[derive(Clone, Copy)]
+pub struct Operand {
+    pub fault: usize,
+    pub len: usize,
+    pub next: usize,
 }
 
 fn faulty(fault: usize) -> Operand
-    ensures { result.len ≤ 0 }
+    ensures { (result.fault ≡ fault) × (result.len ≤ 0) }
 {
     Operand {
         fault,
@@ -24,8 +26,10 @@ fn faulty(fault: usize) -> Operand
     }
 }
 
-fn bytes_at(text: &[u8], from: usize, out: &mut [u8]) -> Operand
-    ensures { result.len ≤ length out.new }
+// Bytes in hex, to the start of `out`. Where they are read the text goes on after their word, so that a reader of words ends.
+pub fn bytes_at(text: &[u8], from: usize, out: &mut [u8]) -> Operand
+    ensures len_in_bounds { result.len ≤ length out.new }
+    ensures text_bound { result.fault ≡ 0 → (min from (length text.now) < result.next) × (result.next ≤ length text.now) }
 {
     let w = word(text, from);
     let a = w.start;
@@ -41,7 +45,7 @@ fn bytes_at(text: &[u8], from: usize, out: &mut [u8]) -> Operand
     }
 }
 
-fn number_at(text: &[u8], from: usize) -> Operand {
+pub fn number_at(text: &[u8], from: usize) -> Operand {
     let w = word(text, from);
     let a = w.start;
     let e = w.end;
@@ -120,7 +124,7 @@ fn numbers_at(text: &[u8], from: usize, out: &mut [u32]) -> Operand
 }
 
 // What comes after the bytes: nothing, a number, or a number and any more of them.
-#[derive(Drop)]
+#[derive(Clone, Copy)]
 pub enum Tail {
     Nothing,
     Number,
@@ -128,7 +132,7 @@ pub enum Tail {
 }
 
 // The numbers that were read: the first, and how many more there are.
-#[derive(Drop)]
+#[derive(Clone, Copy)]
 struct Numbers {
     fault: usize,
     first: usize,
@@ -210,7 +214,7 @@ fn tail_after(text: &[u8], before: Operand, tail: Tail, out: &mut [u32]) -> Numb
 
 // What a question has after its verb: bytes in the first `one`, `two` and `three` of three rooms, a number, and more of them in the first
 // `more` of a room of words. All are 0 where they are not wanted, and `fault` is 0 where all is read.
-#[derive(Drop)]
+#[derive(Clone, Copy)]
 pub struct Operands {
     pub fault: usize,
     pub one: usize,

@@ -6,7 +6,7 @@ use print::wide;
 use text::{Numeral, number, word};
 
 // Whether the text has the number, and where it goes on.
-#[derive(Drop)]
+#[derive(Clone, Copy)]
 pub struct Seen {
     pub same: bool,
     pub next: usize,

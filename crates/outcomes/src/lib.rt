@@ -1,12 +1,15 @@
 // What a question on a line is answered by, to standard output: what is here promises safety only.
+#![tactic(auto)]
+
 use answers::Answer;
 use operands::faults::reason;
 use print::{tell, write_words};
 use slices::first;
+use std::io;
 
 pub mod expected;
 
-#[derive(Drop)]
+#[derive(Clone, Copy)]
 pub enum Outcome {
     Answered(Answer),
     Listed { answer: Answer, filled: usize },
@@ -15,19 +18,17 @@ pub enum Outcome {
 
 // An answer as a line has it: six numbers, and where words were filled ` :` and these; or `? ` and why the line is no case. `room` is how
 // many bytes a word of it may spell.
-pub fn write(outcome: Outcome, words: &[u32], room: usize) {
+pub fn write(rt: &impl Print, outcome: Outcome, words: &[u32], room: usize) -> io::Result<()> {
     match outcome {
-        Outcome::Answered(a) => {
-            answers::write(a);
-        }
+        Outcome::Answered(a) => { answers::write(rt, a) }
         Outcome::Listed { answer, filled } => {
-            answers::write(answer);
-            tell(b" :");
-            write_words(first(words, filled));
+            answers::write(rt, answer)?;
+            tell(rt, b" :")?;
+            write_words(rt, first(words, filled))
         }
         Outcome::NoCase(n) => {
-            tell(b"? ");
-            reason(n, room);
+            tell(rt, b"? ")?;
+            reason(rt, n, room)
         }
     }
 }

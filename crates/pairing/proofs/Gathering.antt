@@ -85,11 +85,11 @@ pub record Left (text d bytes words : List ℕ) (at line len count : ℕ) : Type
   pub halves : 2 * line ≤ at
   pub lines_in : line ≤ length (lines_of text)
   pub bytes_in : len ≤ length bytes
-  pub words_in_law : count ≤ length words
+  pub words_in : count ≤ length words
 
 pub begins : (text d bytes words : List ℕ) → Left text d bytes words 0 0 0 0
 begins text d bytes words =
-    record { paired = none_paired d (lines_of text); lines_left = refl; counts = refl; halves = omega arith; lines_in = omega arith; bytes_in = omega arith; words_in_law = omega arith }
+    record { paired = none_paired d (lines_of text); lines_left = refl; counts = refl; halves = omega arith; lines_in = omega arith; bytes_in = omega arith; words_in = omega arith }
 
 module _ {text d bytes words : List ℕ} {at line len count : ℕ} (l : Left text d bytes words at line len count) where
   -- a line more
@@ -111,8 +111,8 @@ module _ {text d bytes words : List ℕ} {at line len count : ℕ} (l : Left tex
     rest_are : drop (line + 1) (lines_of text) ≡ lines_of (drop (end + 1) text)
     rest_are = sym (drop-drop 1 line (lines_of text)) ∙ ap (λ (x : List (List ℕ)). drop 1 x) left_are
 
-    one_more_law : line + 1 ≤ length (lines_of text)
-    one_more_law = let n = simp length-drop at (ap (λ (x : List (List ℕ)). length x) left_are) in omega (arith, n, l.lines_in)
+    one_more : line + 1 ≤ length (lines_of text)
+    one_more = let n = simp length-drop at (ap (λ (x : List (List ℕ)). length x) left_are) in omega (arith, n, l.lines_in)
 
     -- which has a byte, the space
     pub some : {i : ℕ} {x : List ℕ} → PairOf d this i x → at < end
@@ -133,9 +133,9 @@ module _ {text d bytes words : List ℕ} {at line len count : ℕ} (l : Left tex
           lines_left = rest_are;
           counts = omega (arith, l.counts);
           halves = omega (arith, l.halves, some pair);
-          lines_in = one_more_law;
+          lines_in = one_more;
           bytes_in = simp length-append (omega (arith, lb, few));
-          words_in_law = rw (length-sets words count (i ∷ len ∷ (len + n) ∷ [])) room;
+          words_in = rw (length-sets words count (i ∷ len ∷ (len + n) ∷ [])) room;
         }
 
   -- and none left

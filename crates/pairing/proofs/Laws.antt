@@ -28,9 +28,9 @@ unfolding before
 no_bytes line = record { inside = omega arith; after = rw (drop_of_length-le line (le_refl (length line))) }
 
 -- a byte more, which is none
-pub one_more_law : {line : List ℕ} {i : ℕ} → Blank line (i + 1) → (get_or line i 0 ≡ 0x20 → ⊥) → Blank line i
+pub one_more : {line : List ℕ} {i : ℕ} → Blank line (i + 1) → (get_or line i 0 ≡ 0x20 → ⊥) → Blank line i
 unfolding before
-one_more_law {line} {i} b n =
+one_more {line} {i} b n =
     let cut : drop i line ≡ get_or line i 0 ∷ drop (i + 1) line = drop-cons line i 0 (omega (arith, b.inside)) ∙ ap (λ (k : ℕ). get_or line i 0 ∷ drop k line) (sym (add-one i)) in
     record {
       inside = omega (arith, b.inside);

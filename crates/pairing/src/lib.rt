@@ -1,4 +1,6 @@
 // Lines `NAME HEX` as pairs over a dictionary, for an object that is written of them. NAME is all before the last space, HEX the child's bytes.
+#![tactic(auto)]
+
 ghost use Rattle.std.specs.Prelude.{◌≡◌, ◌+◌, ◌*◌, ◌/◌, ◌≤◌, ◌<◌, [], ◌∷◌, length, take};
 ghost use Rattle.std.proofs.lemmas.List.Edits.{sets};
 ghost use Rattle.dictionary.specs.declared.Head.TheVariants as Head;
@@ -45,7 +47,7 @@ fn entry_of(dict: &[u8], h: Header, name: &[u8]) -> usize
 }
 
 // The entry of a line's name, and the first `len` bytes of a room, its child's; or the fault.
-#[derive(Drop)]
+#[derive(Clone, Copy)]
 struct Pair {
     fault: usize,
     id: usize,
@@ -97,7 +99,7 @@ fn put_pair(words: &mut [u32], at: usize, id: usize, start: usize, end: usize)
 
 // The pairs that were gathered: the first `len` bytes, and the first `count` words. Where there is a fault, it is that of line `line`, counted
 // from 0, and there are none.
-#[derive(Drop)]
+#[derive(Clone, Copy)]
 pub struct Pairs {
     pub fault: usize,
     pub line: usize,

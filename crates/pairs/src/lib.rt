@@ -1,4 +1,6 @@
 // Pairs that are given to be written as fields: 25, 45 and 28, and the largest id (document 02, k).
+#![tactic(auto)]
+
 ghost use Rattle.std.specs.Prelude.{◌≡◌, ◌<◌, max, min, length};
 ghost use Rattle.dictionary.specs.Dictionary.{count as count_of};
 ghost use Rattle.source.specs.Pairs.{pairs};

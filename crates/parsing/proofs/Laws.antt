@@ -148,7 +148,7 @@ module _ (s names words : List ℕ) where
 
 -- THE PROMISE: a refusal leaves both buffers; the steps are written
 pub kept_so : (s names words : List ℕ) (r : Refusal) → answer s names words ≡ refused (refusal_number r) → ParsePromise s names words (reading.Refused r) names words
-kept_so s names words r e = record { says = rw e; names_stay = rw e; words_left = rw e }
+kept_so s names words r e = record { says = rw e; names_left = rw e; words_left = rw e }
 
 pub written_so : (s names words names' words' : List ℕ) (count sum : ℕ) → Room s names words → of count sum ≡ sizes (parse 0 s)
     → answer s names words ≡ steps (steps_in (parse 0 s)) → names' ≡ sets names 0 (names_of (steps_in (parse 0 s)))
@@ -156,4 +156,4 @@ pub written_so : (s names words names' words' : List ℕ) (count sum : ℕ) → 
 written_so s names words names' words' count sum r f e p q =
     let o = is_of (parse 0 s) count sum f in
     let z : of count sum ≡ of (length (steps_in (parse 0 s))) (total (steps_in (parse 0 s))) = ap₂ of o.1 o.2 in
-    record { says = rw e z; names_stay = rw e (p ∙ names_written s names words r); words_left = rw e (q ∙ words_written s names words r) }
+    record { says = rw e z; names_left = rw e (p ∙ names_written s names words r); words_left = rw e (q ∙ words_written s names words r) }

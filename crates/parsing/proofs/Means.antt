@@ -102,7 +102,7 @@ module _ (path names words names' words' : List ℕ) where
       → Refusal path names words (refusal_number r) × (names' ≡ names) × (words' ≡ words)
   refused_so r h =
       let e = is_bad (answer path names words) (refusal_number r) h.says in
-      ((refuses path names words (refusal_number r)).0 e, h.names_stay ∙ rw e, h.words_left ∙ rw e)
+      ((refuses path names words (refusal_number r)).0 e, h.names_left ∙ rw e, h.words_left ∙ rw e)
 
   pub parsed_so : (count sum : ℕ) → ParsePromise path names words (reading.Parsed count sum) names' words' → Read path names words count sum names' words'
   parsed_so count sum h =
@@ -113,6 +113,6 @@ module _ (path names words names' words' : List ℕ) where
         accepted = (accepts path names words xs).0 e;
         count_is = k;
         total_is = t;
-        stand = rw (h.names_stay, h.words_left) (laid path names words xs e);
-        back = rw (h.names_stay, h.words_left, k) (read_back_law path names words xs e);
+        stand = rw (h.names_left, h.words_left) (laid path names words xs e);
+        back = rw (h.names_left, h.words_left, k) (read_back_law path names words xs e);
       }

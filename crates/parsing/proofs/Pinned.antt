@@ -43,4 +43,4 @@ reading_injective r q e = sym (reading_back_law r) ∙ ap reading_back e ∙ rea
 pub parse_pinned : (path names words : List ℕ) (r q : Reading) (names' names'' words' words'' : List ℕ)
     → ParsePromise path names words r names' words' → ParsePromise path names words q names'' words'' → (r ≡ q) × (names' ≡ names'') × (words' ≡ words'')
 parse_pinned path names words r q names' names'' words' words'' a b =
-    (reading_injective r q (a.says ∙ sym b.says), a.names_stay ∙ sym b.names_stay, a.words_left ∙ sym b.words_left)
+    (reading_injective r q (a.says ∙ sym b.says), a.names_left ∙ sym b.names_left, a.words_left ∙ sym b.words_left)

@@ -1,4 +1,5 @@
 -- What is written is the steps: they stand in the two buffers row by row, and are read back exactly. Assumes nothing.
+use mathlib.Core.Path.{subst}
 use Rattle.rules.proofs.Prelude.{◌≡◌, refl, sym, ap, ap₂, List, [], ◌∷◌, ◌++◌, append_assoc, ℕ, ◌+◌, ◌-◌, ◌*◌, arith, length, length-append, drop}
 use Rattle.rules.proofs.Prelude.{get_or, get_or-append-add}
 use lib.Seq.{take-append_seam, drop-append_seam, get_or-append_seam}
@@ -53,15 +54,17 @@ lay : (xs : List Step) (p q u v : List ℕ) → Laid (p ++ (names_of xs ++ u)) (
 unfolding names_of words_of weight
 lay [] p q u v = tt
 lay (x ∷ xs) p q u v =
-    let names : p ++ ((text_of x ++ names_of xs) ++ u) ≡ p ++ (text_of x ++ (names_of xs ++ u)) = ap (λ (l : List ℕ). p ++ l) (append_assoc (text_of x) (names_of xs) u) in
+    let names : p ++ (names_of (x ∷ xs) ++ u) ≡ p ++ (text_of x ++ (names_of xs ++ u)) = ap (λ (l : List ℕ). p ++ l) (append_assoc (text_of x) (names_of xs) u) in
     let rest = words_of (length p + length (text_of x)) xs in
-    let words : q ++ ((row_of (length p) x ++ rest) ++ v) ≡ q ++ (row_of (length p) x ++ (rest ++ v)) = ap (λ (l : List ℕ). q ++ l) (append_assoc (row_of (length p) x) rest v) in
+    let words : q ++ (words_of (length p) (x ∷ xs) ++ v) ≡ q ++ (row_of (length p) x ++ (rest ++ v)) = ap (λ (l : List ℕ). q ++ l) (append_assoc (row_of (length p) x) rest v) in
     let used : length p + length (text_of x) ≡ length (p ++ text_of x) = sym (length-append p (text_of x)) in
     let row : length q + 3 ≡ length (q ++ row_of (length p) x) = omega (arith, length-append q (row_of (length p) x), row_length (length p) x) in
     let more = lay xs (p ++ text_of x) (q ++ row_of (length p) x) u v in
-    rw (names, words) (
-      stands x p q (names_of xs ++ u) (rest ++ v),
-      rw (← append_assoc p (text_of x) (names_of xs ++ u), ← append_assoc q (row_of (length p) x) (rest ++ v), row, used) more,
+    let after : Laid (p ++ (text_of x ++ (names_of xs ++ u))) (q ++ (row_of (length p) x ++ (rest ++ v))) (length q + 3) xs =
+    rw (← append_assoc p (text_of x) (names_of xs ++ u), ← append_assoc q (row_of (length p) x) (rest ++ v), row, used) more in (
+      rw (names, words) (stands x p q (names_of xs ++ u) (rest ++ v)),
+      subst (λ (l : List ℕ). Laid l (q ++ (words_of (length p) (x ∷ xs) ++ v)) (length q + 3) xs) (sym names)
+          (subst (λ (m : List ℕ). Laid (p ++ (text_of x ++ (names_of xs ++ u))) m (length q + 3) xs) (sym words) after),
     )
 
 -- THE STEPS STAND in the two buffers after an accepted path, three words each, from the first word on

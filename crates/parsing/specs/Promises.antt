@@ -8,5 +8,5 @@ use Rattle.parsing.specs.Answers.{parse_numbers}
 -- the answer, and both buffers after it
 pub record ParsePromise (path names words : List ℕ) (r : Reading) (names' words' : List ℕ) : Type 0 where
   pub says : parse_numbers r ≡ sizes (answer path names words)
-  pub names_stay : names' ≡ names_after (answer path names words) names
+  pub names_left : names' ≡ names_after (answer path names words) names
   pub words_left : words' ≡ words_after (answer path names words) words

@@ -1,6 +1,8 @@
 // A path such as `site.meter[2]` into lent bytes, its names, and lent words, three a step (utils.rs: parse_path).
+#![tactic(auto)]
+
 ghost use Rattle.std.specs.Prelude.{◌≡◌};
-ghost use Rattle.steps.specs.Answers.{refusal_number as stepRefusal};
+ghost use Rattle.steps.specs.Answers.{refusal_number as step_refusal};
 ghost use Rattle.parsing.specs.Parsing.{leading_dot, lacking};
 ghost use Rattle.parsing.specs.Answers.{refusal_number};
 ghost use Rattle.parsing.specs.Promises.{ParsePromise};
@@ -51,7 +53,7 @@ pub enum Reading {
 
 // The refusals that a step can meet, among those of the whole call.
 fn among(r: steps::Refusal) -> Refusal
-    ensures { refusal_number result ≡ stepRefusal r }
+    ensures { refusal_number result ≡ step_refusal r }
 {
     match r {
         steps::Refusal::TrailingDot => Refusal::TrailingDot,

@@ -1,4 +1,6 @@
 // The first byte of a part: see specs/Part.antt for what a part is.
+#![tactic(auto)]
+
 ghost use Rattle.std.specs.Prelude.{◌≡◌, ◌≤◌, length, get_or};
 ghost use Rattle.part.specs.Part.{part};
 

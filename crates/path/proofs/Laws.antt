@@ -82,19 +82,19 @@ module _ (d v names words : List ℕ) (count number : ℕ) (at : Spot) (w : Come
 
 -- A PATH THAT WAS READ: its steps stand in the buffers that it left, and the answer is theirs
 module _ (path names words names' words' : List ℕ) (count sum : ℕ) (says : of count sum ≡ sizes (answer path names words))
-    (names_stay : names' ≡ names_after (answer path names words) names) (words_left : words' ≡ words_after (answer path names words) words) where
+    (names_left : names' ≡ names_after (answer path names words) names) (words_left : words' ≡ words_after (answer path names words) words) where
   abbrev Read : List Step
   Read = steps_in (answer path names words)
 
   read : read_back names' words' 0 count ≡ Read
   read =
       let o = is_of (answer path names words) count sum says in
-      rw (names_stay, words_left, o.1) (read_back_law path names words Read o.0)
+      rw (names_left, words_left, o.1) (read_back_law path names words Read o.0)
 
   pub filled : Filled names' words' count
   filled =
       let o = is_of (answer path names words) count sum says in
-      rw (read, names_stay, words_left) (laid path names words Read o.0)
+      rw (read, names_left, words_left) (laid path names words Read o.0)
 
   pub by_steps : (d v : List ℕ) → by_path d v path names words ≡ asked d v (read_back names' words' 0 count)
   unfolding by_path

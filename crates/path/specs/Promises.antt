@@ -8,5 +8,5 @@ use Rattle.path.specs.Answers.{asked_numbers}
 
 pub record GetPromise (d v path names words : List ℕ) (r : Asked) (names' words' : List ℕ) : Type 0 where
   pub says : asked_numbers r ≡ by_path d v path names words
-  pub names_stay : names' ≡ names_after (answer path names words) names
+  pub names_left : names' ≡ names_after (answer path names words) names
   pub words_left : words' ≡ words_after (answer path names words) words

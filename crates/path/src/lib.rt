@@ -1,4 +1,6 @@
 // Asking by path: the path's steps, and a walk by them, layer by layer (variant.rs: Variant::get_path).
+#![tactic(auto)]
+
 ghost use Rattle.fields.specs.Steps.{Over};
 ghost use Rattle.path.specs.Promises.{GetPromise};
 ghost use Rattle.path.specs.Steps.{Filled, WalkOf, AskedOf};

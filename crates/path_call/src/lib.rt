@@ -1,4 +1,6 @@
 // The call by a path. It is `lichenhusk`'s by one line, and its promise is proved here.
+#![tactic(auto)]
+
 ghost use Rattle.path_call.specs.Promises.{PathPromise};
 
 use strip::STRIP;

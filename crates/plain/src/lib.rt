@@ -1,4 +1,6 @@
 // Bytes below 0x80, which are characters of their own: the largest of many tells whether all are, and they are passed in strides.
+#![tactic(auto)]
+
 ghost use Rattle.std.specs.Prelude.{◌+◌, ◌≤◌, length};
 ghost use Rattle.plain.specs.Steps.{Reached, AtMost};
 

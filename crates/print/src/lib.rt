@@ -1,35 +1,38 @@
 // What programs write, which promises safety only, and how much they hold. Where it says nothing else it goes to standard output.
+#![tactic(auto)]
+
 ghost use Rattle.std.specs.Prelude.{◌≡◌};
 
 pub mod room;
 
-use libc::STDOUT_FILENO;
+use std::io;
+use std::io::Write;
 
-// Words to an open file.
-pub fn tell_to(to: i32, words: &[u8]) -> bool {
-    io::write_all(to, words)
+// Words to a writer: standard error, or what stands for it.
+pub fn tell_to(to: &mut impl Write, words: &[u8]) -> io::Result<()> {
+    to.write_all(words)
 }
 
-// A number after some words, to an open file.
-pub fn say_to(to: i32, words: &[u8], n: usize) {
-    tell_to(to, words);
-    io::print_decimal(to, n as u64);
+// A number after some words, to a writer.
+pub fn say_to(to: &mut impl Write, words: &[u8], n: usize) -> io::Result<()> {
+    tell_to(to, words)?;
+    write!(to, "{n}")
 }
 
-pub fn tell(words: &[u8]) -> bool {
-    tell_to(STDOUT_FILENO, words)
+pub fn tell(rt: &impl Print, words: &[u8]) -> io::Result<()> {
+    tell_to(&mut io::writer(rt), words)
 }
 
-pub fn say(words: &[u8], n: usize) {
-    say_to(STDOUT_FILENO, words, n);
+pub fn say(rt: &impl Print, words: &[u8], n: usize) -> io::Result<()> {
+    say_to(&mut io::writer(rt), words, n)
 }
 
 // The bytes of `s` in hex, a space before each.
-pub fn write_hex(s: &[u8]) {
-    for i in 0..s.len() {
-        tell(b" ");
-        io::print_hex(STDOUT_FILENO, width::wide(s[i]) as u64, 2);
+pub fn write_hex(rt: &impl Print, s: &[u8]) -> io::Result<()> {
+    for b in s {
+        print!(rt; " {b:02x}")?;
     }
+    Ok(())
 }
 
 // A word of 32 bits as a number.
@@ -40,34 +43,30 @@ pub fn wide(x: u32) -> usize
 }
 
 // The words of `s`, a space before each.
-pub fn write_words(s: &[u32]) {
-    for i in 0..s.len() {
-        say(b" ", wide(s[i]));
+pub fn write_words(rt: &impl Print, s: &[u32]) -> io::Result<()> {
+    for word in s {
+        say(rt, b" ", wide(*word))?;
     }
+    Ok(())
 }
 
 // A byte of a name. What would end the quotes or reach a terminal as a control is written `\xNN`.
-fn letter(to: i32, b: u8) {
+fn letter(to: &mut impl Write, b: u8) -> io::Result<()> {
     match b {
-        0..=31 | b'"' | b'\\' | 127 => {
-            tell_to(to, b"\\x");
-            io::print_hex(to, width::wide(b) as u64, 2);
-        }
-        _ => {
-            tell_to(to, &[b]);
-        }
+        0..=31 | b'"' | b'\\' | 127 => write!(to, "\\x{b:02x}"),
+        _ => tell_to(to, &[b]),
     }
 }
 
-// A name in quotes, to an open file.
-pub fn quoted_to(to: i32, name: &[u8]) {
-    tell_to(to, b"\"");
-    for i in 0..name.len() {
-        letter(to, name[i]);
+// A name in quotes, to a writer.
+pub fn quoted_to(to: &mut impl Write, name: &[u8]) -> io::Result<()> {
+    tell_to(to, b"\"")?;
+    for b in name {
+        letter(to, *b)?;
     }
-    tell_to(to, b"\"");
+    tell_to(to, b"\"")
 }
 
-pub fn quoted(name: &[u8]) {
-    quoted_to(STDOUT_FILENO, name);
+pub fn quoted(rt: &impl Print, name: &[u8]) -> io::Result<()> {
+    quoted_to(&mut io::writer(rt), name)
 }

@@ -1,5 +1,7 @@
 // How much a program holds of what it is asked about, and what it says of more.
 use crate::{say_to, tell_to};
+use std::io;
+use std::io::Write;
 
 // The bytes of a dictionary, of an object, and of all names that are looked for at once. The library reads more, over slices that a host
 // lends; a program has only its stack.
@@ -14,16 +16,16 @@ pub fn words() -> [u32; ROOM] {
     [0; ROOM]
 }
 
-// What comes after `it is` where there are more than `most` of these, to an open file.
-pub fn longer_than(to: i32, most: usize, of_these: &[u8]) -> bool {
-    say_to(to, b" longer than ", most);
-    tell_to(to, of_these);
+// What comes after `it is` where there are more than `most` of these, to a writer.
+pub fn longer_than(to: &mut impl Write, most: usize, of_these: &[u8]) -> io::Result<()> {
+    say_to(to, b" longer than ", most)?;
+    tell_to(to, of_these)?;
     tell_to(to, b", all that this program has room for")
 }
 
 // The same, and what to use instead. How much that reads, its own papers say: programs are not to change with it.
-pub fn use_library(to: i32, most: usize, of_these: &[u8]) -> bool {
-    longer_than(to, most, of_these);
+pub fn use_library(to: &mut impl Write, most: usize, of_these: &[u8]) -> io::Result<()> {
+    longer_than(to, most, of_these)?;
     tell_to(
         to,
         b"; for more use the library, from C (include/lichenhusk.h) or from Rust (rust/lichenhusk)",

@@ -1,4 +1,6 @@
 // Bytes into lent room: a part of other bytes, a number of some width.
+#![tactic(auto)]
+
 ghost use Rattle.std.specs.Prelude.{◌≡◌, ◌+◌, ◌≤◌, length, take, drop};
 ghost use Rattle.std.proofs.lemmas.List.Edits.{sets};
 ghost use Rattle.width.specs.Width.{bytes_of};

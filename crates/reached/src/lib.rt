@@ -1,10 +1,12 @@
 // What stands at the end of a path, or why nothing does, as words to standard output: what is here promises safety only.
+#![tactic(auto)]
+
 use answers::Answer;
 use ask_into::STEPS;
-use libc::STDOUT_FILENO;
 use print::{quoted, room, say, tell, wide};
 use slices::part_of;
 use speak::bits_of;
+use std::io;
 
 // The first word of a step by name. Of one by index it is 1.
 const BY_NAME: u32 = 0;
@@ -53,59 +55,59 @@ fn last(words: &[u32]) -> u32 {
 }
 
 // What a step asks of a value that has no such.
-fn wrong_kind(names: &[u8], s: Step) -> bool {
+fn wrong_kind(rt: &impl Print, names: &[u8], s: Step) -> io::Result<()> {
     if s.kind == BY_NAME {
-        tell(b"it asks for the name ");
-        quoted(part_of(names, s.low, s.high));
-        return tell(b" of a value that is no object");
+        tell(rt, b"it asks for the name ")?;
+        quoted(rt, part_of(names, s.low, s.high))?;
+        return tell(rt, b" of a value that is no object");
     }
-    say(b"it asks for element ", bits_of(s.low, s.high));
-    tell(b" of a value that is no list")
+    say(rt, b"it asks for element ", bits_of(s.low, s.high))?;
+    tell(rt, b" of a value that is no list")
 }
 
 // 20 and 21 are of any value that is stepped into.
-fn meaning(a: Answer, names: &[u8], words: &[u32]) -> bool {
+fn meaning(rt: &impl Print, a: Answer, names: &[u8], words: &[u32]) -> io::Result<()> {
     let code = a.code;
     match code {
-        20 => reasons::above_limit(STDOUT_FILENO, b"a value on the way"),
-        21 => tell(b"a value on the way has no bytes"),
-        53 => wrong_kind(names, step_at(words, a.place)),
-        _ => reasons::meaning(code),
+        20 => reasons::above_limit(&mut io::writer(rt), b"a value on the way"),
+        21 => tell(rt, b"a value on the way has no bytes"),
+        53 => wrong_kind(rt, names, step_at(words, a.place)),
+        _ => reasons::meaning(rt, code),
     }
 }
 
-fn refused(a: Answer, names: &[u8], words: &[u32]) {
-    reasons::number(a.code, a.place);
-    meaning(a, names, words);
-    tell(b"\n");
+fn refused(rt: &impl Print, a: Answer, names: &[u8], words: &[u32]) -> io::Result<()> {
+    reasons::number(rt, a.code, a.place)?;
+    meaning(rt, a, names, words)?;
+    tell(rt, b"\n")
 }
 
 // What was found, by the kind of the last step.
-fn found(whole: &[u8], a: Answer, kind: u32) {
+fn found(rt: &impl Print, whole: &[u8], a: Answer, kind: u32) -> io::Result<()> {
     match kind {
-        0 => speak::field(whole, a),
+        0 => speak::field(rt, whole, a),
         1 => {
-            say(b"found: element ", a.number);
-            tell(b", its value");
-            speak::standing(whole, a.start, a.end);
+            say(rt, b"found: element ", a.number)?;
+            tell(rt, b", its value")?;
+            speak::standing(rt, whole, a.start, a.end)
         }
         _ => {
-            tell(b"found: the whole value,");
-            speak::standing(whole, a.start, a.end);
+            tell(rt, b"found: the whole value,")?;
+            speak::standing(rt, whole, a.start, a.end)
         }
     }
 }
 
-pub fn get(dict: &[u8], value: &[u8], path: &[u8]) {
+pub fn get(rt: &impl Print, dict: &[u8], value: &[u8], path: &[u8]) -> io::Result<()> {
     let mut names = room::bytes();
     let mut steps = [NO_STEP; STEPS];
     let words: &mut [u32] = &mut steps;
     let a = ask_into::path(dict, value, path, &mut names, words);
     if a.code == 0 {
-        found(value, a, last(words));
+        found(rt, value, a, last(words))
     } else if a.code == 1 {
-        tell(b"absent\n");
+        tell(rt, b"absent\n")
     } else {
-        refused(a, &names, words);
+        refused(rt, a, &names, words)
     }
 }

@@ -1,16 +1,19 @@
 // Why something is refused, as words to standard output, or to `to`: what is here promises safety only.
-use libc::STDOUT_FILENO;
+#![tactic(auto)]
+
 use print::{say_to, tell, tell_to};
+use std::io;
+use std::io::Write;
 
 // That something is longer than any that the library reads or writes.
-pub fn above_limit(to: i32, what: &[u8]) -> bool {
-    tell_to(to, what);
-    say_to(to, b" is longer than ", dictionary::LIMIT);
+pub fn above_limit(to: &mut impl Write, what: &[u8]) -> io::Result<()> {
+    tell_to(to, what)?;
+    say_to(to, b" is longer than ", dictionary::LIMIT)?;
     tell_to(to, b" bytes")
 }
 
 // Why a dictionary is refused.
-pub fn meaning_of_dictionary(to: i32, code: usize) -> bool {
+pub fn meaning_of_dictionary(to: &mut impl Write, code: usize) -> io::Result<()> {
     match code {
         10 => above_limit(to, b"the dictionary"),
         11 => tell_to(to, b"the dictionary is empty"),
@@ -32,93 +35,106 @@ pub fn meaning_of_dictionary(to: i32, code: usize) -> bool {
     }
 }
 
-fn meaning_of_object(code: usize) -> bool {
+fn meaning_of_object(rt: &impl Print, code: usize) -> io::Result<()> {
     match code {
-        20 => above_limit(STDOUT_FILENO, b"the object"),
-        21 => tell(b"the object is empty"),
-        22 => tell(b"the basic type is not 2, that of an object"),
-        23 => tell(b"the object is cut short"),
-        24 => tell(b"a sum in the object is above the u32 range"),
-        25 => tell(b"its id is no entry of the dictionary"),
-        26 => tell(b"its name is not above the one before"),
-        27 => tell(b"its offset is above the value region's length"),
-        28 => tell(b"its child has no bytes"),
-        41 => tell(b"the answer has more words than there is room for"),
-        43 => tell(b"its child is of no known type, or its own length passes the object's end"),
-        _ => tell(b"its end falls or passes the bytes of the names"),
+        20 => above_limit(&mut io::writer(rt), b"the object"),
+        21 => tell(rt, b"the object is empty"),
+        22 => tell(rt, b"the basic type is not 2, that of an object"),
+        23 => tell(rt, b"the object is cut short"),
+        24 => tell(rt, b"a sum in the object is above the u32 range"),
+        25 => tell(rt, b"its id is no entry of the dictionary"),
+        26 => tell(rt, b"its name is not above the one before"),
+        27 => tell(rt, b"its offset is above the value region's length"),
+        28 => tell(rt, b"its child has no bytes"),
+        41 => tell(rt, b"the answer has more words than there is room for"),
+        43 => tell(
+            rt,
+            b"its child is of no known type, or its own length passes the object's end",
+        ),
+        _ => tell(rt, b"its end falls or passes the bytes of the names"),
     }
 }
 
 // Why a value is refused, or a tree for the value.
-pub fn meaning_of_value(code: usize) -> bool {
+pub fn meaning_of_value(rt: &impl Print, code: usize) -> io::Result<()> {
     match code {
-        50 => tell(b"it is cut short, or longer than the u32 range"),
-        51 => tell(b"its primitive type is unknown"),
-        52 => tell(b"it is an object or a list inside 32 others"),
-        54 => tell(b"its text is not UTF-8"),
-        60 => tell(b"the list is cut short"),
-        61 => tell(b"a sum in the list is above the u32 range"),
-        _ => tell(b"its offset is above the next one or the value region's length"),
+        50 => tell(rt, b"it is cut short, or longer than the u32 range"),
+        51 => tell(rt, b"its primitive type is unknown"),
+        52 => tell(rt, b"it is an object or a list inside 32 others"),
+        54 => tell(rt, b"its text is not UTF-8"),
+        60 => tell(rt, b"the list is cut short"),
+        61 => tell(rt, b"a sum in the list is above the u32 range"),
+        _ => tell(
+            rt,
+            b"its offset is above the next one or the value region's length",
+        ),
     }
 }
 
 // Why a path is none.
-fn meaning_of_path(code: usize) -> bool {
+fn meaning_of_path(rt: &impl Print, code: usize) -> io::Result<()> {
     match code {
-        70 => tell(b"the path is not UTF-8"),
-        71 => tell(b"the path starts with a dot"),
-        72 => tell(b"the path ends with a dot"),
-        73 => tell(b"the path has no name after a dot, or closes a bracket that is not open"),
-        74 => tell(b"the path has a bracket that is not closed"),
+        70 => tell(rt, b"the path is not UTF-8"),
+        71 => tell(rt, b"the path starts with a dot"),
+        72 => tell(rt, b"the path ends with a dot"),
+        73 => tell(
+            rt,
+            b"the path has no name after a dot, or closes a bracket that is not open",
+        ),
+        74 => tell(rt, b"the path has a bracket that is not closed"),
         75 => tell(
+            rt,
             b"the path has brackets around what is neither quoted nor a number below 18446744073709551616",
         ),
-        _ => tell(b"the path has more steps or longer names than there is room for"),
+        _ => tell(
+            rt,
+            b"the path has more steps or longer names than there is room for",
+        ),
     }
 }
 
 // Where it is, for those that have a place.
-fn write_place(to: i32, code: usize, place: usize) {
+fn write_place(to: &mut impl Write, code: usize, place: usize) -> io::Result<()> {
     match code {
         16 | 19 => {
-            say_to(to, b" at byte ", place);
-            tell_to(to, b" of the value region");
+            say_to(to, b" at byte ", place)?;
+            tell_to(to, b" of the value region")
         }
         17 | 18 => say_to(to, b" at entry ", place),
         25..=28 | 43 => say_to(to, b" at field ", place),
         45 => say_to(to, b" at name ", place),
         53 => say_to(to, b" at step ", place),
         62 => say_to(to, b" at element ", place),
-        _ => {}
+        _ => Ok(()),
     }
 }
 
-pub fn meaning(code: usize) -> bool {
+pub fn meaning(rt: &impl Print, code: usize) -> io::Result<()> {
     match code {
-        20..=28 | 41 | 43 | 45 => meaning_of_object(code),
-        50..=62 => meaning_of_value(code),
-        70..=76 => meaning_of_path(code),
-        _ => meaning_of_dictionary(STDOUT_FILENO, code),
+        20..=28 | 41 | 43 | 45 => meaning_of_object(rt, code),
+        50..=62 => meaning_of_value(rt, code),
+        70..=76 => meaning_of_path(rt, code),
+        _ => meaning_of_dictionary(&mut io::writer(rt), code),
     }
 }
 
 // What comes before the meaning: the number, and where it is.
-pub fn number_to(to: i32, code: usize, place: usize) {
-    say_to(to, b"refused ", code);
-    write_place(to, code, place);
+pub fn number_to(to: &mut impl Write, code: usize, place: usize) -> io::Result<()> {
+    say_to(to, b"refused ", code)?;
+    write_place(to, code, place)
 }
 
-pub fn number(code: usize, place: usize) {
-    number_to(STDOUT_FILENO, code, place);
-    tell(b": ");
+pub fn number(rt: &impl Print, code: usize, place: usize) -> io::Result<()> {
+    number_to(&mut io::writer(rt), code, place)?;
+    tell(rt, b": ")
 }
 
-pub fn why(code: usize, place: usize) {
-    number(code, place);
-    meaning(code);
+pub fn why(rt: &impl Print, code: usize, place: usize) -> io::Result<()> {
+    number(rt, code, place)?;
+    meaning(rt, code)
 }
 
-pub fn refused(code: usize, place: usize) {
-    why(code, place);
-    tell(b"\n");
+pub fn refused(rt: &impl Print, code: usize, place: usize) -> io::Result<()> {
+    why(rt, code, place)?;
+    tell(rt, b"\n")
 }

@@ -1,4 +1,6 @@
 // The answer to writing as the six words of a strip.
+#![tactic(auto)]
+
 ghost use Rattle.std.specs.Prelude.{◌≡◌};
 ghost use Rattle.write.specs.Answers.{written_numbers};
 ghost use Rattle.strip.specs.Shapes.{words_of, dictionary_shape};

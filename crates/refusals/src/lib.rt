@@ -1,8 +1,10 @@
 // The dictionary's, the object layer's and the list layer's refusals as the six words of a strip.
+#![tactic(auto)]
+
 ghost use Rattle.std.specs.Prelude.{◌≡◌};
-ghost use Rattle.dictionary.specs.Answers.{refusal_number as dictionaryNumber, refusal_place as dictionaryPlace};
-ghost use Rattle.layer.specs.Answers.{refusal_number as objectNumber, refusal_place as objectPlace};
-ghost use Rattle.list.specs.Answers.{refusal_number as listNumber, refusal_place as listPlace};
+ghost use Rattle.dictionary.specs.Answers.{refusal_number as dictionary_number, refusal_place as dictionary_place};
+ghost use Rattle.layer.specs.Answers.{refusal_number as object_number, refusal_place as object_place};
+ghost use Rattle.list.specs.Answers.{refusal_number as list_number, refusal_place as list_place};
 ghost use Rattle.strip.specs.Shapes.{refusal_words};
 ghost use Rattle.strip.specs.Steps.{list_of};
 
@@ -10,7 +12,7 @@ use strip::{Words, refusal};
 
 // Refusals 10 to 19.
 pub fn of_dictionary_refusal(r: dictionary::Refusal) -> Words
-    ensures { list_of result ≡ refusal_words (dictionaryNumber r) (dictionaryPlace r) }
+    ensures { list_of result ≡ refusal_words (dictionary_number r) (dictionary_place r) }
 {
     match r {
         dictionary::Refusal::TooLong => refusal(10, 0),
@@ -28,7 +30,7 @@ pub fn of_dictionary_refusal(r: dictionary::Refusal) -> Words
 
 // Refusals 20 to 28, and the dictionary's.
 pub fn of_object_refusal(r: layer::Refusal) -> Words
-    ensures { list_of result ≡ refusal_words (objectNumber r) (objectPlace r) }
+    ensures { list_of result ≡ refusal_words (object_number r) (object_place r) }
 {
     match r {
         layer::Refusal::Dictionary(d) => of_dictionary_refusal(d),
@@ -46,7 +48,7 @@ pub fn of_object_refusal(r: layer::Refusal) -> Words
 
 // Refusals 60 to 62.
 pub fn of_list_refusal(r: list::Refusal) -> Words
-    ensures { list_of result ≡ refusal_words (listNumber r) (listPlace r) }
+    ensures { list_of result ≡ refusal_words (list_number r) (list_place r) }
 {
     match r {
         list::Refusal::Short => refusal(60, 0),

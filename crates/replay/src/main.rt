@@ -1,10 +1,11 @@
 // Replays answers of the Rust's that were written down (data/answers; rust/README.md says how the list is made and what a line means) and
 // compares ours with each. No Rust is at hand.
-use libc::STDOUT_FILENO;
+#![tactic(auto)]
 
 mod told;
 
 use outcomes::Outcome;
+use std::io;
 use tally::{Tally, with};
 use text::find;
 
@@ -42,28 +43,28 @@ fn line_agrees(line: &[u8]) -> bool {
     agrees(&line[0..equals], &line[from..n])
 }
 
-fn judge(t: Tally, line: &[u8]) -> Tally {
+fn judge(rt: &impl Print, t: Tally, line: &[u8]) -> io::Result<Tally> {
     if line_agrees(line) {
-        return with(t, true);
+        return Ok(with(t, true));
     }
-    io::write_all(STDOUT_FILENO, b"we do not agree: ");
-    io::write_all(STDOUT_FILENO, line);
-    io::write_all(STDOUT_FILENO, b"\n");
-    with(t, false)
+    print::tell(rt, b"we do not agree: ")?;
+    print::tell(rt, line)?;
+    print::tell(rt, b"\n")?;
+    Ok(with(t, false))
 }
 
-fn run(text: &[u8]) -> Tally {
+fn run(rt: &impl Print, text: &[u8]) -> io::Result<Tally> {
     let mut t = tally::none();
     let mut at: usize = 0;
     while at < text.len() {
         let end = find(text, at, b'\n');
-        t = judge(t, &text[at..end]);
+        t = judge(rt, t, &text[at..end])?;
         if end == text.len() {
-            return t;
+            return Ok(t);
         }
         at = end + 1;
     }
-    t
+    Ok(t)
 }
 
 // As many bytes as the answers have, and some.
@@ -71,11 +72,11 @@ fn room() -> [u8; 352_256] {
     [0; 352_256]
 }
 
-fn main() {
+fn main(rt: HostRuntime) -> io::Result<()> {
     let mut text = room();
-    let n = tally::load(b"answers", &mut text);
-    let t = run(&text[0..n]);
-    print::say(b"", t.cases);
-    print::say(b" answers of the Rust's, ", t.wrong);
-    io::write_all(STDOUT_FILENO, b" differ from ours\n");
+    let n = tally::load(&rt, b"answers", &mut text)?;
+    let t = run(&rt, &text[0..n])?;
+    print::say(&rt, b"", t.cases)?;
+    print::say(&rt, b" answers of the Rust's, ", t.wrong)?;
+    print::tell(&rt, b" differ from ours\n")
 }

@@ -2,7 +2,7 @@
 //
 //     accepts COUNT END     child COUNT END     at START END     found FIELD ID START END     absent     refuses NUMBER     refuses NUMBER START
 //     rows COUNT END : CODE FIELD ID START END ..     reads KIND LOW HIGH     writes COUNT LENGTH : BYTE ..
-//     lays COUNT START LENGTH : BYTE ..
+//     lays COUNT START LENGTH : BYTE ..     wants HELD
 use answers::Answer;
 use operands::ends;
 use outcomes::expected::{has_filled, see};
@@ -114,6 +114,27 @@ fn absent(verb: &[u8], a: Answer) -> bool {
     gives_nothing(a)
 }
 
+// Of pieces, how many bytes are held; how many are wanted is not told.
+fn wants(verb: &[u8], rest: &[u8], a: Answer) -> bool {
+    if !check::same(verb, b"wants") {
+        return false;
+    }
+    if a.id != 0 {
+        return false;
+    }
+    if a.start != 0 {
+        return false;
+    }
+    if a.place != 0 {
+        return false;
+    }
+    let held = see(rest, 0, a.number);
+    if !held.same {
+        return false;
+    }
+    ends(rest, held.next)
+}
+
 pub fn agrees(words: &[u8], a: Answer) -> bool {
     let w = word(words, 0);
     let s = w.start;
@@ -128,6 +149,7 @@ pub fn agrees(words: &[u8], a: Answer) -> bool {
     match code {
         0 => accepted(verb, rest, a),
         1 => absent(verb, a),
+        3 => wants(verb, rest, a),
         _ => false,
     }
 }

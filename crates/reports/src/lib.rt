@@ -1,6 +1,8 @@
 // The verdict on a tree as the six words of a strip.
+#![tactic(auto)]
+
 ghost use Rattle.std.specs.Prelude.{◌≡◌};
-ghost use Rattle.leaf.specs.Answers.{refusal_number as leafNumber};
+ghost use Rattle.leaf.specs.Answers.{refusal_number as leaf_number};
 ghost use Rattle.nodes.specs.Answers.{refusal_number, refusal_place};
 ghost use Rattle.marked.specs.Answers.{verdict_numbers};
 ghost use Rattle.strip.specs.Shapes.{words_of, tree_shape, refusal_words};
@@ -11,7 +13,7 @@ use strip::{Words, answer, from, refusal};
 
 // Refusals 50, 51 and 54.
 fn of_leaf_refusal(r: leaf::Refusal) -> Words
-    ensures { list_of result ≡ refusal_words (leafNumber r) 0 }
+    ensures { list_of result ≡ refusal_words (leaf_number r) 0 }
 {
     match r {
         leaf::Refusal::Short => refusal(50, 0),

@@ -1,4 +1,6 @@
 // The five words of a name in the answer to a lookup of many.
+#![tactic(auto)]
+
 ghost use Rattle.std.specs.Prelude.{◌≡◌, ◌+◌, ◌≤◌, length};
 ghost use Rattle.std.proofs.lemmas.List.Edits.{sets};
 ghost use Rattle.layer.specs.Steps.{LayerOf};
@@ -11,7 +13,7 @@ use layer::Layer;
 use lookup::{Search, field_place};
 
 // What a name's five words say.
-#[derive(Drop)]
+#[derive(Clone, Copy)]
 pub struct Row {
     pub code: u32,
     pub field: u32,

@@ -1,1 +1,2 @@
 // Definitions and laws only: see specs/Rules.antt and proofs/Laws.antt.
+#![tactic(auto)]

@@ -1,4 +1,6 @@
 // A run of names: their bytes one after another, with the ends in words of 32 bits.
+#![tactic(auto)]
+
 ghost use Rattle.run.specs.Promises.{CheckPromise};
 
 // What the ends are: all good, or the first name whose end falls or passes the run.

@@ -1,4 +1,6 @@
 // Each answer as a sentence to standard output: what is here promises safety only.
+#![tactic(auto)]
+
 ghost use Rattle.std.specs.Prelude.{◌+◌, ◌≤◌, length};
 
 use answers::Answer;
@@ -6,70 +8,70 @@ use print::{quoted, say, tell, wide};
 use reasons::{refused, why};
 use slices::part_of;
 use speak::counted;
+use std::io;
 
-pub fn check_dictionary(dict: &[u8]) {
-    let a = ask::dictionary(dict);
+// What a dictionary's check answers.
+pub fn verdict(rt: &impl Print, a: Answer) -> io::Result<()> {
     if a.code != 0 {
-        refused(a.code, a.place);
-        return;
+        return refused(rt, a.code, a.place);
     }
-    counted(b"accepted: ", a.number, b" name", b" names");
-    say(b", the end at byte ", a.end);
-    tell(b"\n");
+    counted(rt, b"accepted: ", a.number, b" name", b" names")?;
+    say(rt, b", the end at byte ", a.end)?;
+    tell(rt, b"\n")
+}
+
+pub fn check_dictionary(rt: &impl Print, dict: &[u8]) -> io::Result<()> {
+    verdict(rt, ask::dictionary(dict))
 }
 
 // A refusal is of the whole value, or of one inside it, to which the steps are told.
-pub fn check_tree(dict: &[u8], value: &[u8]) {
+pub fn check_tree(rt: &impl Print, dict: &[u8], value: &[u8]) -> io::Result<()> {
     let a = ask::tree(dict, value);
     if a.code == 0 {
-        counted(b"accepted: ", a.end, b" byte\n", b" bytes\n");
-        return;
+        return counted(rt, b"accepted: ", a.end, b" byte\n", b" bytes\n");
     }
-    why(a.code, a.place);
+    why(rt, a.code, a.place)?;
     if 0 < a.start {
-        say(b"; in the value from byte ", a.start);
-        tell(b" on, at ");
-        trail::write(dict, value, a.start);
+        say(rt, b"; in the value from byte ", a.start)?;
+        tell(rt, b" on, at ")?;
+        trail::write(rt, dict, value, a.start)?;
     }
-    tell(b"\n");
+    tell(rt, b"\n")
 }
 
-pub fn name(dict: &[u8], entry: usize) {
+pub fn name(rt: &impl Print, dict: &[u8], entry: usize) -> io::Result<()> {
     let a = ask::name(dict, entry);
     if a.code != 0 {
-        refused(a.code, a.place);
-        return;
+        return refused(rt, a.code, a.place);
     }
-    say(b"entry ", entry);
-    say(b" is at bytes ", a.start);
-    say(b" to ", a.end);
-    tell(b": ");
-    quoted(part_of(dict, a.start, a.end));
-    tell(b"\n");
+    say(rt, b"entry ", entry)?;
+    say(rt, b" is at bytes ", a.start)?;
+    say(rt, b" to ", a.end)?;
+    tell(rt, b": ")?;
+    quoted(rt, part_of(dict, a.start, a.end))?;
+    tell(rt, b"\n")
 }
 
 // What a lookup answers.
-fn found(object: &[u8], a: Answer) {
+fn found(rt: &impl Print, object: &[u8], a: Answer) -> io::Result<()> {
     if a.code == 1 {
-        tell(b"absent\n");
-        return;
+        return tell(rt, b"absent\n");
     }
     if a.code != 0 {
-        refused(a.code, a.place);
-        return;
+        return refused(rt, a.code, a.place);
     }
-    speak::field(object, a);
+    speak::field(rt, object, a)
 }
 
-pub fn find(dict: &[u8], object: &[u8], name: &[u8]) {
-    found(object, ask::lookup(dict, object, name));
+pub fn find(rt: &impl Print, dict: &[u8], object: &[u8], name: &[u8]) -> io::Result<()> {
+    found(rt, object, ask::lookup(dict, object, name))
 }
 
 // The name that was looked for, before what was found of it.
-pub fn sought(name: &[u8]) {
-    tell(b"find ");
-    quoted(name);
-    tell(b": ");
+pub fn sought(rt: &impl Print, name: &[u8]) -> io::Result<()> {
+    tell(rt, b"find ")?;
+    quoted(rt, name)?;
+    tell(rt, b": ")
 }
 
 // What the five words of a name say, as if it had been asked alone.
@@ -87,29 +89,41 @@ fn row(words: &[u32], at: usize) -> Answer
 }
 
 // A line a name, in the order asked.
-fn rows(object: &[u8], names: &[u8], ends: &[u32], words: &[u32]) {
+fn rows(
+    rt: &impl Print,
+    object: &[u8],
+    names: &[u8],
+    ends: &[u32],
+    words: &[u32],
+) -> io::Result<()> {
     let mut begin: usize = 0;
     let mut at: usize = 0;
     for k in 0..ends.len() {
         if words.len() - at < 5 {
-            return;
+            return Ok(());
         }
         let end = wide(ends[k]);
-        sought(part_of(names, begin, end));
-        found(object, row(words, at));
+        sought(rt, part_of(names, begin, end))?;
+        found(rt, object, row(words, at))?;
         begin = end;
         at += 5;
     }
+    Ok(())
 }
 
 // The names that a run of bytes holds, `ends` where each ends, looked up at one check. There is room for the words of 64.
-pub fn find_all(dict: &[u8], object: &[u8], names: &[u8], ends: &[u32]) {
+pub fn find_all(
+    rt: &impl Print,
+    dict: &[u8],
+    object: &[u8],
+    names: &[u8],
+    ends: &[u32],
+) -> io::Result<()> {
     let mut room = [0u32; 320];
     let words: &mut [u32] = &mut room;
     let a = ask_into::lookup_all(dict, object, names, ends, words);
     if a.code != 0 {
-        refused(a.code, a.place);
-        return;
+        return refused(rt, a.code, a.place);
     }
-    rows(object, names, ends, words);
+    rows(rt, object, names, ends, words)
 }

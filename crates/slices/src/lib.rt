@@ -1,4 +1,5 @@
 // Parts of slices, or nothing where there is none, and bytes as words: what is here promises safety only.
+#![tactic(auto)]
 
 // The part of `s` from `start` to `end`; nothing where there is none.
 pub fn part_of(s: &[u8], start: usize, end: usize) -> &[u8] {

@@ -7,6 +7,7 @@ use encoding::Header;
 use layout::{Head, Widths};
 use print::{quoted, say, tell, write_hex};
 use slices::part_of;
+use std::io;
 use utf8::Verdict;
 use width::wide;
 
@@ -23,78 +24,76 @@ fn whole_characters(s: &[u8]) -> &[u8] {
     }
 }
 
-fn text(s: &[u8]) {
+fn text(rt: &impl Print, s: &[u8]) -> io::Result<()> {
     if s.len() <= SHOWN {
-        tell(b"string ");
-        quoted(s);
-        return;
+        tell(rt, b"string ")?;
+        return quoted(rt, s);
     }
-    say(b"string of ", s.len());
-    tell(b" bytes that starts ");
-    quoted(whole_characters(part_of(s, 0, SHOWN)));
+    say(rt, b"string of ", s.len())?;
+    tell(rt, b" bytes that starts ")?;
+    quoted(rt, whole_characters(part_of(s, 0, SHOWN)))
 }
 
-fn no_text(s: &[u8]) {
-    say(b"string of ", s.len());
-    tell(b" bytes that are not UTF-8:");
-    start_of(s);
+fn no_text(rt: &impl Print, s: &[u8]) -> io::Result<()> {
+    say(rt, b"string of ", s.len())?;
+    tell(rt, b" bytes that are not UTF-8:")?;
+    start_of(rt, s)
 }
 
 // Reading a value does not check a string: what is no text does not reach a terminal as it is.
-fn string(s: &[u8]) {
+fn string(rt: &impl Print, s: &[u8]) -> io::Result<()> {
     let verdict = utf8::check(s);
     match verdict {
-        Verdict::Whole => text(s),
-        Verdict::Cut(_) => no_text(s),
-        Verdict::Broken(_) => no_text(s),
+        Verdict::Whole => text(rt, s),
+        Verdict::Cut(_) => no_text(rt, s),
+        Verdict::Broken(_) => no_text(rt, s),
     }
 }
 
-fn binary(s: &[u8]) {
-    counted(b"binary of ", s.len(), b" byte:", b" bytes:");
-    start_of(s);
+fn binary(rt: &impl Print, s: &[u8]) -> io::Result<()> {
+    counted(rt, b"binary of ", s.len(), b" byte:", b" bytes:")?;
+    start_of(rt, s)
 }
 
 // The scale, and the number as if it had no decimals. One of 16 bytes is no number of 64 bits: its bytes are shown.
-fn decimal(s: &[u8]) {
+fn decimal(rt: &impl Print, s: &[u8]) -> io::Result<()> {
     if s.len() < 1 {
-        return;
+        return Ok(());
     }
-    say(b"decimal with scale ", wide(s[0]));
+    say(rt, b"decimal with scale ", wide(s[0]))?;
     let number = part_of(s, 1, s.len());
     if number.len() == 16 {
-        tell(b", a number of 16 bytes, the lowest first:");
-        write_hex(number);
-        return;
+        tell(rt, b", a number of 16 bytes, the lowest first:")?;
+        return write_hex(rt, number);
     }
-    tell(b": ");
-    write_signed(number);
+    tell(rt, b": ")?;
+    write_signed(rt, number)
 }
 
-fn name_of_time(t: usize) -> bool {
+fn name_of_time(rt: &impl Print, t: usize) -> io::Result<()> {
     match t {
-        12 | 18 => tell(b"timestamp, "),
-        13 | 19 => tell(b"timestamp without time zone, "),
-        _ => tell(b"time, "),
+        12 | 18 => tell(rt, b"timestamp, "),
+        13 | 19 => tell(rt, b"timestamp without time zone, "),
+        _ => tell(rt, b"time, "),
     }
 }
 
-fn unit_of_time(t: usize) -> bool {
+fn unit_of_time(rt: &impl Print, t: usize) -> io::Result<()> {
     match t {
-        18 | 19 => tell(b" nanoseconds"),
-        _ => tell(b" microseconds"),
+        18 | 19 => tell(rt, b" nanoseconds"),
+        _ => tell(rt, b" microseconds"),
     }
 }
 
-fn date(s: &[u8]) {
-    tell(b"date, day ");
-    write_signed(s);
+fn date(rt: &impl Print, s: &[u8]) -> io::Result<()> {
+    tell(rt, b"date, day ")?;
+    write_signed(rt, s)
 }
 
-fn time(t: usize, s: &[u8]) {
-    name_of_time(t);
-    write_signed(s);
-    unit_of_time(t);
+fn time(rt: &impl Print, t: usize, s: &[u8]) -> io::Result<()> {
+    name_of_time(rt, t)?;
+    write_signed(rt, s)?;
+    unit_of_time(rt, t)
 }
 
 // How many fields or elements there are, by what the header byte says of the numbers after it.
@@ -121,18 +120,18 @@ fn count_of(s: &[u8]) -> usize {
 }
 
 // A value of the kind `t` whose own bytes are `s`.
-pub fn write(t: usize, s: &[u8]) {
+pub fn write(rt: &impl Print, t: usize, s: &[u8]) -> io::Result<()> {
     match t {
-        8..=10 => decimal(s),
-        11 => date(s),
-        12..=13 | 17..=19 => time(t, s),
-        15 => binary(s),
-        16 | 257 => string(s),
+        8..=10 => decimal(rt, s),
+        11 => date(rt, s),
+        12..=13 | 17..=19 => time(rt, t, s),
+        15 => binary(rt, s),
+        16 | 257 => string(rt, s),
         20 => {
-            tell(b"uuid");
-            write_hex(s);
+            tell(rt, b"uuid")?;
+            write_hex(rt, s)
         }
-        258 => counted(b"object of ", count_of(s), b" field", b" fields"),
-        _ => counted(b"list of ", count_of(s), b" element", b" elements"),
+        258 => counted(rt, b"object of ", count_of(s), b" field", b" fields"),
+        _ => counted(rt, b"list of ", count_of(s), b" element", b" elements"),
     }
 }

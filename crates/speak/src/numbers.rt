@@ -1,15 +1,15 @@
 // Numbers in words: integers, and floats with their bits.
 ghost use Rattle.std.specs.Prelude.{◌<◌};
 
-use libc::STDOUT_FILENO;
 use print::{say, tell};
+use std::io;
 
 // 64 bits from half of the range on are a number below zero.
-fn write_bits(bits: usize) {
+fn write_bits(rt: &impl Print, bits: usize) -> io::Result<()> {
     if bits < 0x8000_0000_0000_0000 {
-        say(b"", bits);
+        say(rt, b"", bits)
     } else {
-        say(b"-", 0xFFFF_FFFF_FFFF_FFFF - bits + 1);
+        say(rt, b"-", 0xFFFF_FFFF_FFFF_FFFF - bits + 1)
     }
 }
 
@@ -24,48 +24,50 @@ fn extended(bits: usize) -> usize
 }
 
 // A signed number of four bytes or of eight.
-pub fn write_signed(s: &[u8]) {
+pub fn write_signed(rt: &impl Print, s: &[u8]) -> io::Result<()> {
     if s.len() == 4 {
-        write_bits(extended(width::unpack_u32(s, 0, 4)));
+        write_bits(rt, extended(width::unpack_u32(s, 0, 4)))
     } else if s.len() == 8 {
-        write_bits(width::unpack_u64(s, 0));
+        write_bits(rt, width::unpack_u64(s, 0))
+    } else {
+        Ok(())
     }
 }
 
-fn size_of(t: usize) -> bool {
+fn size_of(rt: &impl Print, t: usize) -> io::Result<()> {
     match t {
-        3 => tell(b", 8 bits"),
-        4 => tell(b", 16 bits"),
-        5 => tell(b", 32 bits"),
-        _ => tell(b", 64 bits"),
+        3 => tell(rt, b", 8 bits"),
+        4 => tell(rt, b", 16 bits"),
+        5 => tell(rt, b", 32 bits"),
+        _ => tell(rt, b", 64 bits"),
     }
 }
 
-fn integer(t: usize, bits: usize) {
-    tell(b"integer ");
-    write_bits(bits);
-    size_of(t);
+fn integer(rt: &impl Print, t: usize, bits: usize) -> io::Result<()> {
+    tell(rt, b"integer ")?;
+    write_bits(rt, bits)?;
+    size_of(rt, t)
 }
 
-fn double(bits: usize) {
-    tell(b"double ");
-    decimal::write_double(bits);
-    tell(b", bits ");
-    io::print_hex(STDOUT_FILENO, bits as u64, 16);
+fn double(rt: &impl Print, bits: usize) -> io::Result<()> {
+    tell(rt, b"double ")?;
+    decimal::write_double(rt, bits)?;
+    tell(rt, b", bits ")?;
+    print!(rt; "{bits:016x}")
 }
 
-fn single(bits: usize) {
-    tell(b"float ");
-    decimal::write_single(bits);
-    tell(b", bits ");
-    io::print_hex(STDOUT_FILENO, bits as u64, 8);
+fn single(rt: &impl Print, bits: usize) -> io::Result<()> {
+    tell(rt, b"float ")?;
+    decimal::write_single(rt, bits)?;
+    tell(rt, b", bits ")?;
+    print!(rt; "{bits:08x}")
 }
 
 // A number of the kind `t` by its bits.
-pub fn write(t: usize, bits: usize) {
+pub fn write(rt: &impl Print, t: usize, bits: usize) -> io::Result<()> {
     match t {
-        7 => double(bits),
-        14 => single(bits),
-        _ => integer(t, bits),
+        7 => double(rt, bits),
+        14 => single(rt, bits),
+        _ => integer(rt, t, bits),
     }
 }

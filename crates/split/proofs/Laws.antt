@@ -55,20 +55,20 @@ ends_count o (x ∷ xs) = ap suc (ends_count (o + length x) xs)
 
 -- WHAT IS LEFT makes the same of run and ends as the whole does
 
-pub record Left (text lentRun lentEnds : List ℕ) (run ends : List ℕ) (at len count : ℕ) : Type 0 where
-  pub run_to : sets run len (joined (lines_of (drop at text))) ≡ sets lentRun 0 (joined (lines_of text))
-  pub ends_to : sets ends count (ends_of len (lines_of (drop at text))) ≡ sets lentEnds 0 (ends_of 0 (lines_of text))
+pub record Left (text lent_run lent_ends : List ℕ) (run ends : List ℕ) (at len count : ℕ) : Type 0 where
+  pub run_to : sets run len (joined (lines_of (drop at text))) ≡ sets lent_run 0 (joined (lines_of text))
+  pub ends_to : sets ends count (ends_of len (lines_of (drop at text))) ≡ sets lent_ends 0 (ends_of 0 (lines_of text))
   pub len_to : len + total (lines_of (drop at text)) ≡ total (lines_of text)
   pub count_to : count + length (lines_of (drop at text)) ≡ length (lines_of text)
-  pub run_same : length run ≡ length lentRun
-  pub ends_same : length ends ≡ length lentEnds
+  pub run_same : length run ≡ length lent_run
+  pub ends_same : length ends ≡ length lent_ends
   pub inside : (len ≤ at) × (count ≤ at) × (len ≤ length text) × (count ≤ length text)
 
 pub begins : (text run ends : List ℕ) → Left text run ends run ends 0 0 0
 begins text run ends =
     record { run_to = refl; ends_to = refl; len_to = omega arith; count_to = omega arith; run_same = refl; ends_same = refl; inside = omega arith }
 
-module _ {text lentRun lentEnds run ends : List ℕ} {at len count : ℕ} (l : Left text lentRun lentEnds run ends at len count) where
+module _ {text lent_run lent_ends run ends : List ℕ} {at len count : ℕ} (l : Left text lent_run lent_ends run ends at len count) where
   -- a line more
   module _ (end : ℕ) (p : at < length text) (r : Reaches newline text at end) where
     line_length : length (take (end - at) (drop at text)) ≡ end - at
@@ -77,7 +77,7 @@ module _ {text lentRun lentEnds run ends : List ℕ} {at len count : ℕ} (l : L
     pub within : (at ≤ end) × (end ≤ length text) × (len + (end - at) ≤ length text) × (count < length text)
     within = omega (arith, l.inside, (next_line text at end p r).1, r.inside)
 
-    pub turn : Left text lentRun lentEnds (sets run len (take (end - at) (drop at text))) (set ends count (len + (end - at))) (end + 1) (len + (end - at)) (count + 1)
+    pub turn : Left text lent_run lent_ends (sets run len (take (end - at) (drop at text))) (set ends count (len + (end - at))) (end + 1) (len + (end - at)) (count + 1)
     unfolding joined ends_of total
     turn =
         let line = take (end - at) (drop at text) in
@@ -101,8 +101,8 @@ module _ {text lentRun lentEnds run ends : List ℕ} {at len count : ℕ} (l : L
     unfolding lines_of
     none_left = rw (drop_of_length-le text p)
 
-    pub ended : (r : Names) → r.len ≡ len → r.count ≡ count → length text ≤ length lentRun → length text ≤ length lentEnds
-        → GatherPromise text lentRun lentEnds r run ends
+    pub ended : (r : Names) → r.len ≡ len → r.count ≡ count → length text ≤ length lent_run → length text ≤ length lent_ends
+        → GatherPromise text lent_run lent_ends r run ends
     unfolding joined ends_of total
     ended r e f g h =
         let ls = lines_of text in
@@ -113,8 +113,8 @@ module _ {text lentRun lentEnds run ends : List ℕ} {at len count : ℕ} (l : L
         record {
           len_is = omega arith;
           count_is = omega arith;
-          run_is = rw none_left at l.run_to ∙ rw bytes at (sets-eq (joined ls) lentRun 0 (omega (arith, l.inside, g)));
-          ends_is = rw none_left at l.ends_to ∙ rw words at (sets-eq (ends_of 0 ls) lentEnds 0 (omega (arith, l.inside, h)));
+          run_is = rw none_left at l.run_to ∙ rw bytes at (sets-eq (joined ls) lent_run 0 (omega (arith, l.inside, g)));
+          ends_is = rw none_left at l.ends_to ∙ rw words at (sets-eq (ends_of 0 ls) lent_ends 0 (omega (arith, l.inside, h)));
         }
 
 -- THE PARTS that hold them

@@ -1,4 +1,6 @@
 // The lines of a text as names, for a dictionary that is written of them.
+#![tactic(auto)]
+
 ghost use Rattle.std.specs.Prelude.{◌≤◌, ◌<◌, length};
 ghost use Rattle.split.specs.Promises.{GatherPromise};
 

@@ -37,5 +37,5 @@ module _ (d o q : List ℕ) where
         let b = between_less (field_name d o) q (count o) rising 0 (at + 1) at (between d o q (at + 1) above) inside (compare_of_law (less p)) in
         between_none (field_name d o) q (count o) rising (at + 1) (at + 1) b (omega arith)
 
-    pub is_there_law : field_name d o at ≡ q → seek (field_name d o) q (count o) ≡ here at
-    is_there_law e = between_equal (field_name d o) q (count o) (names_rise d o passes) 0 (at + 1) at (between d o q (at + 1) above) inside (compare_of_law (equal e))
+    pub is_there : field_name d o at ≡ q → seek (field_name d o) q (count o) ≡ here at
+    is_there e = between_equal (field_name d o) q (count o) (names_rise d o passes) 0 (at + 1) at (between d o q (at + 1) above) inside (compare_of_law (equal e))

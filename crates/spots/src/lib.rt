@@ -1,4 +1,6 @@
 // Where names of many may be, four to a search by their keys, and the field of each.
+#![tactic(auto)]
+
 ghost use Rattle.std.specs.Prelude.{◌≡◌, cond, ◌+◌, ◌-◌, ◌<◌, ltb, length};
 ghost use Rattle.names.specs.Search.{seek};
 ghost use Rattle.run.specs.Run.{end as end_of};
@@ -38,13 +40,13 @@ fn probe(
 }
 
 // Where a name may be: at this field or before it. With the name's key.
-#[derive(Drop)]
+#[derive(Clone, Copy)]
 pub struct Spot {
     pub at: usize,
     pub key: usize,
 }
 
-#[derive(Drop)]
+#[derive(Clone, Copy)]
 pub struct Four {
     pub first: Spot,
     pub second: Spot,

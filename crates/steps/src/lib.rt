@@ -1,4 +1,6 @@
 // The steps of a path such as `site.meter[2]`, as the Rust's parse_path reads them (utils.rs).
+#![tactic(auto)]
+
 ghost use Rattle.std.specs.Prelude.{◌≡◌, false, ◌+◌, ◌≤◌, ◌<◌, length, drop};
 ghost use Rattle.brackets.specs.Brackets.{content, digits, number};
 ghost use Rattle.steps.specs.Path.{ends, plain, numbered, bracket, dotted};

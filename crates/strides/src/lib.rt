@@ -1,9 +1,11 @@
 // One step of a path: a name in an object, or an index in a list (variant.rs: Variant::get_path).
+#![tactic(auto)]
+
 ghost use Rattle.std.specs.Prelude.{◌≡◌};
 ghost use Rattle.fields.specs.Steps.{Over};
-ghost use Rattle.layer.specs.Answers.{refused as layerRefused};
+ghost use Rattle.layer.specs.Answers.{refused as layer_refused};
 ghost use Rattle.elements.specs.Element.{element};
-ghost use Rattle.elements.specs.Answers.{refused as elementRefused};
+ghost use Rattle.elements.specs.Answers.{refused as element_refused};
 ghost use Rattle.steps.specs.Path.Step.{named};
 ghost use Rattle.parsing.specs.ReadBack.{step_at};
 ghost use Rattle.strides.specs.Stride.{as_step};
@@ -22,7 +24,7 @@ pub enum Refusal {
 }
 
 // What stands where a step leads: its field or index, its id, and where it starts and ends.
-#[derive(Drop)]
+#[derive(Clone, Copy)]
 pub struct Spot {
     pub field: usize,
     pub id: usize,
@@ -39,7 +41,7 @@ pub enum Stride {
 
 // A refusal of the object's, as that of step `number`.
 fn of_object(r: layer::Refusal, number: usize) -> Refusal
-    ensures { refused result ≡ as_step number (layerRefused r) }
+    ensures { refused result ≡ as_step number (layer_refused r) }
 {
     match r {
         layer::Refusal::BasicType => Refusal::WrongKind(number),
@@ -49,7 +51,7 @@ fn of_object(r: layer::Refusal, number: usize) -> Refusal
 
 // A refusal of the list's, as that of step `number`.
 fn of_list(r: elements::Refusal, number: usize) -> Refusal
-    ensures { refused result ≡ as_step number (elementRefused r) }
+    ensures { refused result ≡ as_step number (element_refused r) }
 {
     match r {
         elements::Refusal::TooLong => Refusal::Layer(layer::Refusal::TooLong),

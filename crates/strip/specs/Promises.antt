@@ -8,6 +8,6 @@ pub record Left (strip words : List ℕ) (code : ℕ) (after : List ℕ) : Type 
   pub leaves : after ≡ strip_after strip words
 
 -- of a call that fills lent words or room, or clears lent marks: what stands in them afterwards
-pub record Filled (strip words lent filled : List ℕ) (code : ℕ) (after lentAfter : List ℕ) : Type 0 where
+pub record Filled (strip words lent filled : List ℕ) (code : ℕ) (after lent_after : List ℕ) : Type 0 where
   pub strip_left : Left strip words code after
-  pub words_left : lentAfter ≡ filled_after strip lent filled
+  pub words_left : lent_after ≡ filled_after strip lent filled

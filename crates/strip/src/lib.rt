@@ -1,4 +1,6 @@
 // The six words of a strip, and their one writer (include/lichenhusk.h has what each word is for each call).
+#![tactic(auto)]
+
 ghost use Rattle.std.specs.Prelude.{◌≡◌, [], ◌∷◌, ◌≤◌, length, set};
 ghost use Rattle.strip.specs.Shapes.{refusal_words, strip_bytes};
 ghost use Rattle.strip.specs.Steps.{list_of, Wrote};
@@ -7,7 +9,7 @@ ghost use Rattle.strip.specs.Steps.{list_of, Wrote};
 pub const STRIP: usize = 24;
 
 // The six numbers of a strip.
-#[derive(Drop)]
+#[derive(Clone, Copy)]
 pub struct Words {
     pub code: u32,
     pub number: usize,

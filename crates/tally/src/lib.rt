@@ -1,8 +1,14 @@
 // How many cases a test program had, how many were not as expected, and the file that they are read from.
-ghost use Rattle.io.specs.Counts.{IsPrefixLen};
+#![tactic(auto)]
+
+ghost use Rattle.std.specs.Prelude.{◌≤◌, length, IfOk};
 ghost use Rattle.tally.specs.Counting.{More, Judged};
 
-#[derive(Drop)]
+use std::io::Read;
+use std::rt::Files;
+use std::{fs, io, str};
+
+#[derive(Clone, Copy)]
 pub struct Tally {
     pub cases: usize,
     pub wrong: usize,
@@ -38,16 +44,15 @@ pub fn with(t: Tally, good: bool) -> Tally
     }
 }
 
-// What stands in the file of a table, as far as there is room; nothing, and a word on it, where it cannot be read.
-pub fn load(path: &[u8], out: &mut [u8]) -> usize
-    ensures { IsPrefixLen result out.new }
+// What stands in the file of a table, as far as there is room; nothing, and a word on it, where it cannot be opened.
+pub fn load(rt: &(impl Files + Eprint), path: &[u8], out: &mut [u8]) -> io::Result<usize>
+    ensures { IfOk result (λ n. n ≤ length out.new) }
 {
-    let fd = os::open_read(path);
-    if fd < 0 {
-        os::fail(path);
-        return 0;
+    match files::open(rt, path) {
+        Ok(mut file) => files::read(&mut file, out),
+        Err(error) => {
+            files::fail(rt, path, &error)?;
+            Ok(0)
+        }
     }
-    let n = io::read_full(fd, out);
-    libc::close(fd);
-    n
 }

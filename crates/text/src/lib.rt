@@ -1,4 +1,6 @@
 // Words, bytes in hex and decimal numbers out of a line of text.
+#![tactic(auto)]
+
 ghost use Rattle.std.specs.Prelude.{◌≡◌, ◌/◌, ◌≤◌, eqb, length};
 ghost use Rattle.std.proofs.lemmas.List.Edits.{sets};
 ghost use Rattle.text.specs.Text.{is_blank, digit_of, no_digit, before, pairs, hex_of, number_of};
@@ -17,7 +19,7 @@ fn digit(b: u8) -> u8
 }
 
 // The bytes at which a run ends.
-#[derive(Drop)]
+#[derive(Clone, Copy)]
 enum Stop {
     Blank,
     Letter,
@@ -73,7 +75,7 @@ pub fn find(text: &[u8], from: usize, b: u8) -> usize
 }
 
 // The part of a text from `start` to `end`.
-#[derive(Drop)]
+#[derive(Clone, Copy)]
 pub struct Span {
     pub start: usize,
     pub end: usize,

@@ -1,12 +1,14 @@
 // Strings inside strings: one range of a whole that is known to be text is kept, so that what lies in it is not read again. A string that
 // overlaps or touches it makes it longer, and its new bytes alone are read; one that stands apart takes its place.
+#![tactic(auto)]
+
 ghost use Rattle.std.specs.Prelude.{◌≡◌, true, ◌≤◌, length};
 ghost use Rattle.part.specs.Part.{part};
 ghost use Rattle.chars.specs.Rfc3629.{Text};
 ghost use Rattle.texts.specs.Known.{KnownOf, Tells, JudgedOf, Starts};
 
 // A range of the whole.
-#[derive(Drop)]
+#[derive(Clone, Copy)]
 pub struct Span {
     pub start: usize,
     pub end: usize,

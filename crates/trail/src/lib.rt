@@ -1,11 +1,15 @@
 // Where a value stands in a tree: a step for each container around it, a field's name or an element's number, to standard output. What is
 // here promises safety only.
+#![tactic(auto)]
+
 ghost use Rattle.std.specs.Prelude.{◌<◌};
 ghost use Rattle.layout.specs.Steps.{Few, NumbersOf};
 
 use encoding::Header;
 use layout::{Numbers, Widths};
+use lengths::Length;
 use print::{quoted, say, tell};
+use std::io;
 
 // Child `number` of a container, from byte `start` to byte `end` of it; or none.
 #[derive(Drop)]
@@ -38,9 +42,10 @@ fn refuses(dict: &[u8], s: &[u8], start: usize, end: usize, to: usize, depth: us
         return false;
     }
     let child = &s[start..end];
-    let length = lengths::own_length(child);
-    if lengths::is_known(length) && lengths::bytes_of(length) < to - start {
-        return false;
+    if let Length::Known(length) = lengths::own_length(child) {
+        if length < to - start {
+            return false;
+        }
     }
     let verdict = tree::check_at(dict, child, depth);
     match verdict {
@@ -104,72 +109,74 @@ fn next_step(dict: &[u8], s: &[u8], to: usize, depth: usize) -> Step {
     }
 }
 
-fn write_entry(dict: &[u8], id: usize) {
+fn write_entry(rt: &impl Print, dict: &[u8], id: usize) -> io::Result<()> {
     let entry = metadata::get(dict, id);
     match entry {
         metadata::Entry::Named(name) => {
             let a = name.start;
             let e = name.end;
             if a <= e && e <= dict.len() {
-                quoted(&dict[a..e]);
+                return quoted(rt, &dict[a..e]);
             }
+            Ok(())
         }
-        _ => {}
+        _ => Ok(()),
     }
 }
 
 // The name of field k.
-fn write_name(dict: &[u8], object: &[u8], k: usize) {
+fn write_name(rt: &impl Print, dict: &[u8], object: &[u8], k: usize) -> io::Result<()> {
     let head = layer::read_header(object);
     match head {
         layer::Head::Good(l) => {
             if k < l.count {
-                write_entry(dict, layer::id_at(object, l, k));
+                return write_entry(rt, dict, layer::id_at(object, l, k));
             }
+            Ok(())
         }
-        layer::Head::Refused(_) => {}
+        layer::Head::Refused(_) => Ok(()),
     }
 }
 
 // A step into child k of a container that stands at this depth: `"name"`, `."name"` after another, or `[k]`.
-fn write_step(dict: &[u8], s: &[u8], k: usize, depth: usize) {
+fn write_step(rt: &impl Print, dict: &[u8], s: &[u8], k: usize, depth: usize) -> io::Result<()> {
     if s.len() < 1 {
-        return;
+        return Ok(());
     }
     if s[0] % 4 == 3 {
-        say(b"[", k);
-        tell(b"]");
-        return;
+        say(rt, b"[", k)?;
+        return tell(rt, b"]");
     }
     if 0 < depth {
-        tell(b".");
+        tell(rt, b".")?;
     }
-    write_name(dict, s, k);
+    write_name(rt, dict, s, k)
 }
 
 // The steps from a tree that is refused to the value at byte `to` of it, for which it is. There are at most 32 containers around that.
-pub fn write(dict: &[u8], tree: &[u8], to: usize) {
+pub fn write(rt: &impl Print, dict: &[u8], tree: &[u8], to: usize) -> io::Result<()> {
     let mut a = 0;
     let mut e = tree.len();
     let mut depth = 0;
     while depth < 32 {
         if to <= a {
-            return;
+            return Ok(());
         }
         let s = &tree[a..e];
         let next = next_step(dict, s, to - a, depth + 1);
         if !next.found {
-            return;
+            return Ok(());
         }
         if next.end < next.start {
-            return;
+            return Ok(());
         }
         if s.len() < next.end {
-            return;
+            return Ok(());
         }
-        write_step(dict, s, next.number, depth);
+        write_step(rt, dict, s, next.number, depth)?;
         e = a + next.end;
         a = a + next.start;
         depth += 1;
     }
+    Ok(())
 }

@@ -32,7 +32,7 @@ module _ (d t v u : List ℕ) {w : Widths} (is : head_of v ≡ header.Object w) 
   unfolding verdict_at
   passes e =
       let over = (object-laws.passes d v e).over in
-      let over' : dictionary.checks (d ++ t) ≡ pass = rw over at (dictionary-appended.checks-kept d t dictionary-limit) in
+      let over' : dictionary.checks (d ++ t) ≡ pass = rw over at (dictionary-appended.checks_kept d t dictionary-limit) in
       verdict_local (d ++ t) v u (end w v) (object_measured v is d e) value-limit 0
       ∙ rw (by_tree 0 (d ++ t) v over' fits, tree_dictionary d t over over' (levels - 0) v, by_tree 0 d v over fits)
 

@@ -1,7 +1,7 @@
 -- Each public call's promise fixes its whole answer, and the lent marks after it: two that meet it are equal. Each answer is read back out of its
 -- number, start and place, so no two cases have the same. Assumes nothing.
 use Rattle.rules.proofs.Prelude.{◌≡◌, refl, sym, ◌∙◌, cond, List, [], ◌∷◌, ℕ, eqb, Answer, gives}
-use Rattle.metadata.proofs.Pinned.{by_back, refusal_by as dictionaryBy}
+use Rattle.metadata.proofs.Pinned.{by_back, refusal_by as dictionary_by}
 use Rattle.object.proofs.Pinned as object
 use Rattle.list.specs.declared.Refusal.TheVariants as list-refusal
 use Rattle.list.proofs.Pinned as list
@@ -23,7 +23,7 @@ refusal_of : ℕ → ℕ → Refusal
 refusal_of c p = object.refusal_by Layer (list.refusal_by OfList (leaf_by c) c p) c p
 
 refusal_back : (r : Refusal) → refusal_of (refusal_number r) (refusal_place r) ≡ r
-unfolding refusal_of object.refusal_by dictionaryBy list.refusal_by
+unfolding refusal_of object.refusal_by dictionary_by list.refusal_by
 refusal_back (Layer r) = object.refusal_back Layer _ r
 refusal_back (OfList list-refusal.Short) = refl
 refusal_back (OfList list-refusal.Sum) = refl

@@ -1,4 +1,6 @@
 // The full check of a value over a dictionary: all that is below it, too (variant.rs: with_full_validation).
+#![tactic(auto)]
+
 ghost use Rattle.marked.specs.Promises.{CheckAtPromise};
 ghost use Rattle.tree.specs.Promises.{CheckPromise, CheckWithPromise};
 

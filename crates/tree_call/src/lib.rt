@@ -1,4 +1,6 @@
 // The call that checks a whole tree. It is `lichenhusk`'s by one line, and its promise is proved here.
+#![tactic(auto)]
+
 ghost use Rattle.tree_call.specs.Promises.{TreePromise};
 
 use strip::STRIP;

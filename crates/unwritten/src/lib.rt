@@ -1,16 +1,20 @@
 // Why nothing is written of lines, as words to `to`: what is here promises safety only.
+#![tactic(auto)]
+
 use print::room::use_library;
 use print::{say_to, tell_to};
 use reasons::{above_limit, meaning_of_dictionary, number_to};
+use std::io;
+use std::io::Write;
 
 // That there is room for `most` bytes, and not for this.
-fn no_room(to: i32, what: &[u8], most: usize) -> bool {
-    tell_to(to, what);
-    tell_to(to, b" is");
+fn no_room(to: &mut impl Write, what: &[u8], most: usize) -> io::Result<()> {
+    tell_to(to, what)?;
+    tell_to(to, b" is")?;
     use_library(to, most, b" bytes")
 }
 
-fn meaning_of_names(to: i32, code: usize, most: usize) -> bool {
+fn meaning_of_names(to: &mut impl Write, code: usize, most: usize) -> io::Result<()> {
     match code {
         10 => above_limit(to, b"the dictionary"),
         46 => no_room(to, b"the dictionary", most),
@@ -19,7 +23,7 @@ fn meaning_of_names(to: i32, code: usize, most: usize) -> bool {
 }
 
 // 25 and 45 no line gives: its name is an entry, and its child lies in the bytes.
-fn meaning_of_pairs(to: i32, code: usize, most: usize) -> bool {
+fn meaning_of_pairs(to: &mut impl Write, code: usize, most: usize) -> io::Result<()> {
     match code {
         20 => above_limit(to, b"the object"),
         26 => tell_to(to, b"its name is that of an earlier line"),
@@ -38,35 +42,35 @@ fn line_of(number: usize) -> usize {
 }
 
 // Of a dictionary that was to be written of names that are lines.
-pub fn dictionary(to: i32, code: usize, place: usize, most: usize) {
-    number_to(to, code, place);
+pub fn dictionary(to: &mut impl Write, code: usize, place: usize, most: usize) -> io::Result<()> {
+    number_to(to, code, place)?;
     if code == 45 {
-        say_to(to, b", line ", line_of(place));
+        say_to(to, b", line ", line_of(place))?;
     }
-    tell_to(to, b": ");
-    meaning_of_names(to, code, most);
-    tell_to(to, b"\n");
+    tell_to(to, b": ")?;
+    meaning_of_names(to, code, most)?;
+    tell_to(to, b"\n")
 }
 
 // The number, and which pair of which line it is of.
-fn pair_number(to: i32, code: usize, place: usize) {
-    say_to(to, b"refused ", code);
-    say_to(to, b" at pair ", place);
-    say_to(to, b", line ", line_of(place));
+fn pair_number(to: &mut impl Write, code: usize, place: usize) -> io::Result<()> {
+    say_to(to, b"refused ", code)?;
+    say_to(to, b" at pair ", place)?;
+    say_to(to, b", line ", line_of(place))
 }
 
 // Of an object that was to be written of pairs that are lines.
-pub fn object(to: i32, code: usize, place: usize, most: usize) {
+pub fn object(to: &mut impl Write, code: usize, place: usize, most: usize) -> io::Result<()> {
     match code {
-        26 | 28 => pair_number(to, code, place),
-        _ => number_to(to, code, place),
+        26 | 28 => pair_number(to, code, place)?,
+        _ => number_to(to, code, place)?,
     }
-    tell_to(to, b": ");
-    meaning_of_pairs(to, code, most);
-    tell_to(to, b"\n");
+    tell_to(to, b": ")?;
+    meaning_of_pairs(to, code, most)?;
+    tell_to(to, b"\n")
 }
 
-fn meaning_of_fault(to: i32, fault: usize) -> bool {
+fn meaning_of_fault(to: &mut impl Write, fault: usize) -> io::Result<()> {
     match fault {
         1 => tell_to(to, b"an odd number of hex digits"),
         2 => tell_to(to, b"a character that is no hex digit"),
@@ -77,9 +81,9 @@ fn meaning_of_fault(to: i32, fault: usize) -> bool {
 }
 
 // Of a line that is no pair: the line's number from 0 on, and its fault.
-pub fn pair(to: i32, line: usize, fault: usize) {
-    say_to(to, b"line ", line_of(line));
-    tell_to(to, b": ");
-    meaning_of_fault(to, fault);
-    tell_to(to, b"\n");
+pub fn pair(to: &mut impl Write, line: usize, fault: usize) -> io::Result<()> {
+    say_to(to, b"line ", line_of(line))?;
+    tell_to(to, b": ")?;
+    meaning_of_fault(to, fault)?;
+    tell_to(to, b"\n")
 }

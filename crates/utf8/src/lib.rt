@@ -1,4 +1,6 @@
 // Well-formed UTF-8 by RFC 3629 (utils.rs: string_from_slice, which calls the library's from_utf8).
+#![tactic(auto)]
+
 ghost use Rattle.std.specs.Prelude.{◌≡◌, ◌+◌, ◌≤◌, length};
 ghost use Rattle.chars.specs.Rfc3629.{text_up_to};
 ghost use Rattle.plain.specs.Steps.{Reached};

@@ -4,7 +4,7 @@ use Rattle.width.specs.Width.{le}
 use Rattle.encoding.specs.declared.Header.{Header}
 use Rattle.encoding.specs.declared.Header.TheVariants as header
 use Rattle.lengths.specs.declared.Length.{Length}
-use Rattle.lengths.specs.declared.Length.TheVariants as length
+use Rattle.lengths.specs.declared.Length.TheVariants as extent
 use Rattle.encoding.specs.Encoding.{header_of}
 use Rattle.lengths.specs.Lengths.{holds_length, own_length}
 use Rattle.lengths.specs.Meaning.{Lacks, Due}
@@ -79,7 +79,7 @@ module _ (s : List ℕ) where
 
   begun : {h : Header} {n : ℕ} → Begins s h n → reading s ≡ read_by h s n
   begun {h} {n} b =
-      let own_is : own_length s ≡ length.Known n = (own.exactly_when s (length.Known n)).1 (whole b.some (rw b.says b.encoded)) in
+      let own_is : own_length s ≡ extent.Known n = (own.exactly_when s (extent.Known n)).1 (whole b.some (rw b.says b.encoded)) in
       sym (by_header s n own_is (sym b.says))
 
   placed : {t n : ℕ} (a : ℕ) → OfType s t n → Placed t → payload_start t ≡ a → reading s ≡ Bytes t a n
@@ -104,11 +104,11 @@ module _ (s : List ℕ) where
   is_read v (short_string b) = begun b
   is_read v (object b) = begun b
   is_read v (list b) = begun b
-  is_read v (no_bytes e) = by_due length.Cut (none_there e)
-  is_read v (header_cut some k) = by_due length.Cut (none some k)
-  is_read v (past_range some k) = by_due length.Sum (none some k)
-  is_read v (past_bytes some k) = by_due length.Longer (none some k)
-  is_read v (no_such_type some e p) = by_due length.Unknown (none some (no-type _ e p))
+  is_read v (no_bytes e) = by_due extent.Cut (none_there e)
+  is_read v (header_cut some k) = by_due extent.Cut (none some k)
+  is_read v (past_range some k) = by_due extent.Sum (none some k)
+  is_read v (past_bytes some k) = by_due extent.Longer (none some k)
+  is_read v (no_such_type some e p) = by_due extent.Unknown (none some (no-type _ e p))
 
 -- THE THEOREM
 pub exactly_when : (s : List ℕ) (v : Value) → (reading s ≡ v) ↔ Reads s v

@@ -8,7 +8,7 @@ use Rattle.number.specs.Signed.{signed}
 use Rattle.encoding.specs.declared.Header.{Header}
 use Rattle.encoding.specs.declared.Header.TheVariants as header
 use Rattle.lengths.specs.declared.Length.{Length}
-use Rattle.lengths.specs.declared.Length.TheVariants as length
+use Rattle.lengths.specs.declared.Length.TheVariants as extent
 use Rattle.encoding.specs.Encoding.{header_of}
 use Rattle.lengths.specs.Lengths.{holds_length, own_length}
 use Rattle.value.specs.declared.Value.{Value}
@@ -49,11 +49,11 @@ read_by (header.List w) s n = Bytes 259 0 n
 
 -- 51 for an unknown primitive type, 50 for all else that has no own length within its bytes and the u32 range
 unfoldable pub measured : Length → List ℕ → Value
-measured (length.Known n) s = read_by (header_of (get_or s 0 0)) s n
-measured length.Cut s = Short
-measured length.Sum s = Short
-measured length.Unknown s = Unknown
-measured length.Longer s = Short
+measured (extent.Known n) s = read_by (header_of (get_or s 0 0)) s n
+measured extent.Cut s = Short
+measured extent.Sum s = Short
+measured extent.Unknown s = Unknown
+measured extent.Longer s = Short
 
 unfoldable pub reading : List ℕ → Value
 reading s = measured (own_length s) s

@@ -1,8 +1,10 @@
 // A value read as a number, or as the place of its bytes (variant.rs: Variant; decoder.rs).
+#![tactic(auto)]
+
 ghost use Rattle.std.specs.Prelude.{◌≡◌, ◌+◌, ◌≤◌, length};
 ghost use Rattle.lengths.specs.Lengths.{payload, own_length};
 ghost use Rattle.lengths.specs.declared.Length.TheVariants.{Known};
-ghost use Rattle.value.specs.Reading.{single as singleOf, double as doubleOf, payload_start, primitive as primitiveOf};
+ghost use Rattle.value.specs.Reading.{single as single_of, double as double_of, payload_start, primitive as primitive_of};
 ghost use Rattle.value.specs.Promises.{ReadPromise};
 
 // What a value is read as. A NaN's bits have a case of their own: the logic has one NaN, which keeps none of them.
@@ -30,7 +32,7 @@ pub enum Value {
 
 // A float by its bits. Without the sign, a NaN's are above those of infinity.
 fn single(n: u32) -> Value
-    ensures { result ≡ singleOf n }
+    ensures { result ≡ single_of n }
 {
     if n % 0x8000_0000 <= 0x7F80_0000 {
         return Value::F32(f32::from_bits(n));
@@ -39,7 +41,7 @@ fn single(n: u32) -> Value
 }
 
 fn double(n: u64) -> Value
-    ensures { result ≡ doubleOf n }
+    ensures { result ≡ double_of n }
 {
     if n % 0x8000_0000_0000_0000 <= 0x7FF0_0000_0000_0000 {
         return Value::F64(f64::from_bits(n));
@@ -59,7 +61,7 @@ fn payload_start(t: usize) -> usize
 
 fn primitive(s: &[u8], t: usize, end: usize) -> Value
     requires { 1 + payload t ≤ length s.now }
-    ensures { result ≡ primitiveOf t s.now end }
+    ensures { result ≡ primitive_of t s.now end }
 {
     match t {
         0 => Value::Null,

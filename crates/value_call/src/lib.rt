@@ -1,4 +1,6 @@
 // The call that reads one value. It is `lichenhusk`'s by one line, and its promise is proved here.
+#![tactic(auto)]
+
 ghost use Rattle.value_call.specs.Promises.{ValuePromise};
 
 use strip::STRIP;

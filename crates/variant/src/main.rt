@@ -1,4 +1,8 @@
 // The command `variant`; crates/command has what it does.
-fn main() {
-    command::run();
+#![tactic(auto)]
+
+use std::io;
+
+fn main(rt: HostRuntime) -> io::Result<()> {
+    command::run(&rt, &mut rt.stderr())
 }

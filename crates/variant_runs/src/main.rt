@@ -1,12 +1,22 @@
 // Runs `variant` on the files of data/: by the program's own arguments, then with the words of each line of `commands` as its arguments.
-// One of these is `batch`, which answers the lines of stdin; a `write-dictionary` after it finds no more of them. Before it the command has a
-// file in place of standard input.
+// One of these is `batch`, which answers the lines of stdin; a `write-dictionary`, or a `check -`, after it finds no more of them. Before it
+// the command has a file in place of standard input.
+#![tactic(auto)]
+
 ghost use Rattle.std.specs.Prelude.{◌≤◌, length};
 
 use files::LENT;
-use libc::STDOUT_FILENO;
 use print::room;
+use std::io;
+use std::io::{Read, Write};
+use std::rt::Files;
 use text::{find, word};
+
+// The names of a line of `commands`.
+const RUN: usize = 4096;
+
+// The bytes of `commands`, and more.
+const COMMANDS: usize = 65_536;
 
 // 1 for a word, and 0 for none.
 fn counts(start: usize, end: usize) -> usize
@@ -75,22 +85,28 @@ fn gather(line: &[u8], from: usize, run: &mut [u8], ends: &mut [u32]) -> Names
     Names { len, count }
 }
 
-// A line's words fit the run, which is as long as all of `commands` may be; of ends there is room for one more than `find` takes.
-fn find_names(line: &[u8], from: usize, dict: &[u8], object: &[u8]) {
-    let mut run = io::buffer();
+// A line of `commands` is shorter than the run; of ends there is room for one more than `find` takes.
+fn find_names(
+    rt: &(impl Files + Print),
+    line: &[u8],
+    from: usize,
+    dict: &[u8],
+    object: &[u8],
+) -> io::Result<()> {
+    let mut run = [0u8; RUN];
     let mut ends = [0u32; 65];
     let names = gather(line, from, &mut run, &mut ends);
     let n = names.len;
     let k = names.count;
-    command::find(dict, object, &run[0..n], &ends[0..k]);
+    command::find(rt, dict, object, &run[0..n], &ends[0..k])
 }
 
 // The path that a word spells; `''` is the empty one, as in a shell.
-fn get(dict: &[u8], value: &[u8], word: &[u8]) {
+fn get(rt: &(impl Files + Print), dict: &[u8], value: &[u8], word: &[u8]) -> io::Result<()> {
     if check::same(word, b"''") {
-        command::get(dict, value, b"");
+        command::get(rt, dict, value, b"")
     } else {
-        command::get(dict, value, word);
+        command::get(rt, dict, value, word)
     }
 }
 
@@ -103,39 +119,70 @@ fn front(s: &[u8]) -> &[u8] {
     &s[0..64]
 }
 
-// What `write-dictionary` makes of a file, its messages among it: the first bytes in hex, and how all are read.
-fn write_dictionary(path: &[u8]) {
-    let mut room = room::bytes();
-    let fd = os::open_read(path);
-    let n = composed::from_input(fd, STDOUT_FILENO, &mut room);
-    libc::close(fd);
-    if 0 < n {
-        print::write_hex(front(&room[0..n]));
-        print::tell(b"\n");
-        sentences::check_dictionary(&room[0..n]);
+// What stands in place of standard input: a file, or what cannot be read where there is none.
+#[derive(Drop)]
+enum Given<F> {
+    File(F),
+    Missing,
+}
+
+impl<F: Read> Read for Given<F> {
+    fn read(&mut self, buf: &mut [u8]) -> io::Result<usize> {
+        match self {
+            Given::File(file) => file.read(buf),
+            Given::Missing => Err(io::Error::other("not open")),
+        }
     }
+}
+
+fn to_read<R: Files>(rt: &R, path: &[u8]) -> Given<R::File> {
+    match files::open(rt, path) {
+        Ok(file) => Given::File(file),
+        Err(_) => Given::Missing,
+    }
+}
+
+// What `write-dictionary` makes of a file, its messages among it: the first bytes in hex, and how all are read.
+fn write_dictionary(rt: &(impl Files + Print), path: &[u8]) -> io::Result<()> {
+    let mut room = room::bytes();
+    let n = composed::from_input(&mut to_read(rt, path), &mut io::writer(rt), &mut room)?;
+    if 0 < n {
+        print::write_hex(rt, front(&room[0..n]))?;
+        print::tell(rt, b"\n")?;
+        sentences::check_dictionary(rt, &room[0..n])?;
+    }
+    Ok(())
 }
 
 // And `write-object` over the dictionary of a file, of another: its fields are listed.
-fn write_object(path: &[u8], lines: &[u8]) {
+fn write_object(rt: &(impl Files + Print), path: &[u8], lines: &[u8]) -> io::Result<()> {
     let mut lent = [0u8; LENT];
-    let dict = files::load_to(STDOUT_FILENO, path, &mut lent);
+    let dict = files::load(rt, path, &mut lent)?;
     if !dict.good {
-        return;
+        return Ok(());
     }
     let m = dict.len;
     let mut room = room::bytes();
-    let fd = os::open_read(lines);
-    let n = assembled::from_input(&lent[0..m], fd, STDOUT_FILENO, &mut room);
-    libc::close(fd);
+    let n = assembled::from_input(
+        &lent[0..m],
+        &mut to_read(rt, lines),
+        &mut io::writer(rt),
+        &mut room,
+    )?;
     if 0 < n {
-        print::write_hex(front(&room[0..n]));
-        print::tell(b"\n");
-        described::list(&lent[0..m], &room[0..n]);
+        print::write_hex(rt, front(&room[0..n]))?;
+        print::tell(rt, b"\n")?;
+        described::list(rt, &lent[0..m], &room[0..n])?;
     }
+    Ok(())
 }
 
-fn act(line: &[u8]) {
+// And `check -` of a file.
+fn check_pieces(rt: &(impl Files + Print), path: &[u8]) -> io::Result<()> {
+    received::check(rt, &mut to_read(rt, path))
+}
+
+fn act(rt: &(impl Files + Input + Print), errors: &mut impl Write, line: &[u8]) -> io::Result<()> {
     let verb = word(line, 0);
     let one = word(line, verb.end);
     let two = word(line, one.end);
@@ -150,39 +197,47 @@ fn act(line: &[u8]) {
     let h = three.end;
     let n = count(line);
     if 5 <= n && check::same(&line[a..b], b"find") {
-        find_names(line, f, &line[c..d], &line[e..f]);
+        find_names(rt, line, f, &line[c..d], &line[e..f])
     } else if n == 5 && check::same(&line[a..b], b"get") {
-        get(&line[c..d], &line[e..f], &line[g..h]);
+        get(rt, &line[c..d], &line[e..f], &line[g..h])
     } else if n == 3 && check::same(&line[a..b], b"write-dictionary") {
-        write_dictionary(&line[c..d]);
+        write_dictionary(rt, &line[c..d])
     } else if n == 4 && check::same(&line[a..b], b"write-object") {
-        write_object(&line[c..d], &line[e..f]);
+        write_object(rt, &line[c..d], &line[e..f])
+    } else if n == 5 && check::same(&line[e..f], b"<") {
+        check_pieces(rt, &line[g..h])
     } else {
-        command::act(n, &line[a..b], &line[c..d], &line[e..f]);
+        command::act(rt, errors, n, &line[a..b], &line[c..d], &line[e..f])
     }
 }
 
-fn run(text: &[u8]) {
+fn run(rt: &(impl Files + Input + Print), errors: &mut impl Write, text: &[u8]) -> io::Result<()> {
     let mut at: usize = 0;
     while at < text.len() {
         let end = find(text, at, b'\n');
-        io::write_all(STDOUT_FILENO, b"$ variant ");
-        io::write_all(STDOUT_FILENO, &text[at..end]);
-        io::write_all(STDOUT_FILENO, b"\n");
-        act(&text[at..end]);
+        print::tell(rt, b"$ variant ")?;
+        print::tell(rt, &text[at..end])?;
+        print::tell(rt, b"\n")?;
+        act(rt, errors, &text[at..end])?;
         if end == text.len() {
-            return;
+            return Ok(());
         }
         at = end + 1;
     }
+    Ok(())
+}
+
+fn commands_room() -> [u8; COMMANDS] {
+    [0; COMMANDS]
 }
 
 // Of the arguments the first three are a `find` of no name, the first four of one, and all of several.
-fn main() {
-    command::run_first(4);
-    command::run_first(5);
-    command::run();
-    let mut text = io::buffer();
-    let n = io::read_full(os::open_read(b"commands"), &mut text);
-    run(&text[..n]);
+fn main(rt: HostRuntime) -> io::Result<()> {
+    let mut errors = rt.stderr();
+    command::run_first(&rt, &mut errors, 4)?;
+    command::run_first(&rt, &mut errors, 5)?;
+    command::run(&rt, &mut errors)?;
+    let mut text = commands_room();
+    let n = files::read(&mut files::open(&rt, b"commands")?, &mut text)?;
+    run(&rt, &mut errors, &text[..n])
 }

@@ -1,1 +1,2 @@
 // A definition and its laws only: see specs/Walk.antt and proofs/Laws.antt.
+#![tactic(auto)]

@@ -1,4 +1,6 @@
 // Little-endian numbers of one to four bytes, and of eight (decoder.rs: OffsetSizeBytes; utils.rs: array_from_slice).
+#![tactic(auto)]
+
 ghost use Rattle.std.specs.Prelude.{◌+◌, ◌≤◌, length};
 ghost use Rattle.width.specs.Promises.{WidePromise, UnpackPromise, Unpack64Promise, PackPromise};
 

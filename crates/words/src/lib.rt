@@ -1,7 +1,9 @@
 // Each call's answer as the six words of a strip.
+#![tactic(auto)]
+
 ghost use Rattle.std.specs.Prelude.{◌≡◌};
 ghost use Rattle.metadata.specs.Answers.{verdict_numbers, entry_numbers};
-ghost use Rattle.object.specs.Answers.{verdict_numbers as layerNumbers};
+ghost use Rattle.object.specs.Answers.{verdict_numbers as layer_numbers};
 ghost use Rattle.lookup.specs.Answers.{lookup_numbers};
 ghost use Rattle.many.specs.Answers.{lookups_numbers};
 ghost use Rattle.listing.specs.Answers.{listing_numbers};
@@ -31,7 +33,7 @@ pub fn of_entry(e: metadata::Entry) -> Words
 }
 
 pub fn of_layer(v: object::Verdict) -> Words
-    ensures { list_of result ≡ words_of layer_shape (layerNumbers v) }
+    ensures { list_of result ≡ words_of layer_shape (layer_numbers v) }
 {
     match v {
         object::Verdict::Refused(r) => of_object_refusal(r),

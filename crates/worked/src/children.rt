@@ -6,21 +6,29 @@
 use crate::report::{bytes, no_case};
 use operands::Tail;
 use slices::part_of;
+use std::io;
 use tally::Tally;
 use text::find;
 
-fn child(t: Tally, case: &[u8], object: &[u8], name: &[u8], want: &[u8]) -> Tally {
+fn child(
+    rt: &impl Print,
+    t: Tally,
+    case: &[u8],
+    object: &[u8],
+    name: &[u8],
+    want: &[u8],
+) -> io::Result<Tally> {
     let d = b"\x11\x02\x00\x04\x08flowroll";
-    bytes(t, case, lookup::child(d, object, name), want)
+    bytes(rt, t, case, lookup::child(d, object, name), want)
 }
 
-pub fn case(t: Tally, line: &[u8]) -> Tally {
+pub fn case(rt: &impl Print, t: Tally, line: &[u8]) -> io::Result<Tally> {
     let mut object = [0u8; 16];
     let mut name = [0u8; 16];
     let mut want = [0u8; 16];
     let colon = find(line, 0, b':');
     if colon == line.len() {
-        return no_case(t);
+        return no_case(rt, t);
     }
     let read = operands::read(
         line,
@@ -33,9 +41,10 @@ pub fn case(t: Tally, line: &[u8]) -> Tally {
         &mut [0; 0],
     );
     if read.fault != 0 {
-        return no_case(t);
+        return no_case(rt, t);
     }
     child(
+        rt,
         t,
         &line[0..colon],
         part_of(&object, 0, read.one),

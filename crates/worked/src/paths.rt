@@ -8,10 +8,12 @@ use crate::report::{bytes, no_case, number, words};
 use operands::Tail;
 use print::wide;
 use slices::{first, part_of};
+use std::io;
 use tally::Tally;
 
 // The code, and both rooms after the call, over a dictionary and the object {"flow": [true, type 21], "roll": true}.
 fn asked(
+    rt: &impl Print,
     t: Tally,
     dict: &[u8],
     path: &[u8],
@@ -21,37 +23,39 @@ fn asked(
     code: usize,
     spelt: &[u8],
     want: &[u32],
-) -> Tally {
+) -> io::Result<Tally> {
     let object = b"\x02\x02\x00\x01\x00\x07\x08\x03\x02\x00\x01\x02\x04\x54\x04";
     let got = lichenhusk::lichenhusk_path(dict, object, path, names, rows, strip);
-    print::tell(b"path");
-    print::write_hex(path);
-    let t = number(t, b"", got as usize, code);
-    let t = bytes(t, b"the names after it", names, spelt);
-    words(t, b"the words after it", rows, want)
+    print::tell(rt, b"path")?;
+    print::write_hex(rt, path)?;
+    let t = number(rt, t, b"", got as usize, code)?;
+    let t = bytes(rt, t, b"the names after it", names, spelt)?;
+    words(rt, t, b"the words after it", rows, want)
 }
 
 // `numbers` are STRIP and the WORDs.
 fn in_rooms(
+    rt: &impl Print,
     t: Tally,
     dict: &[u8],
     path: &[u8],
     spelt: &[u8],
     code: usize,
     numbers: &[u32],
-) -> Tally {
+) -> io::Result<Tally> {
     let k = numbers.len();
     if k == 0 {
-        return no_case(t);
+        return no_case(rt, t);
     }
     let strip = wide(numbers[0]);
     let want = &numbers[1..k];
     let n = spelt.len();
     let m = want.len();
     if 8 < n || 8 < m || 24 < strip {
-        return no_case(t);
+        return no_case(rt, t);
     }
     asked(
+        rt,
         t,
         dict,
         path,
@@ -64,7 +68,7 @@ fn in_rooms(
     )
 }
 
-pub fn case(t: Tally, line: &[u8]) -> Tally {
+pub fn case(rt: &impl Print, t: Tally, line: &[u8]) -> io::Result<Tally> {
     let mut dict = [0u8; 32];
     let mut path = [0u8; 32];
     let mut spelt = [0u8; 32];
@@ -80,9 +84,10 @@ pub fn case(t: Tally, line: &[u8]) -> Tally {
         &mut numbers,
     );
     if read.fault != 0 {
-        return no_case(t);
+        return no_case(rt, t);
     }
     in_rooms(
+        rt,
         t,
         part_of(&dict, 0, read.one),
         part_of(&path, 0, read.two),

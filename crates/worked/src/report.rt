@@ -1,46 +1,52 @@
 // Each case's line to standard output, and the tally.
-use libc::STDOUT_FILENO;
+use std::io;
 use tally::{Tally, with};
 
 // Ends the line of a case that is as expected.
-pub fn good(t: Tally) -> Tally {
-    io::write_all(STDOUT_FILENO, b": as expected\n");
-    with(t, true)
+pub fn good(rt: &impl Print, t: Tally) -> io::Result<Tally> {
+    print::tell(rt, b": as expected\n")?;
+    Ok(with(t, true))
 }
 
 // Ends the line of any other.
-pub fn bad(t: Tally) -> Tally {
-    io::write_all(STDOUT_FILENO, b"\n");
-    with(t, false)
+pub fn bad(rt: &impl Print, t: Tally) -> io::Result<Tally> {
+    print::tell(rt, b"\n")?;
+    Ok(with(t, false))
 }
 
 // A case whose answer is a number.
-pub fn number(t: Tally, case: &[u8], got: usize, want: usize) -> Tally {
-    io::write_all(STDOUT_FILENO, case);
-    print::say(b": ", got);
+pub fn number(
+    rt: &impl Print,
+    t: Tally,
+    case: &[u8],
+    got: usize,
+    want: usize,
+) -> io::Result<Tally> {
+    print::tell(rt, case)?;
+    print::say(rt, b": ", got)?;
     if got == want {
-        return good(t);
+        return good(rt, t);
     }
-    print::say(b": NOT as expected: ", want);
-    bad(t)
+    print::say(rt, b": NOT as expected: ", want)?;
+    bad(rt, t)
 }
 
 // A case whose answer is bytes.
-pub fn bytes(t: Tally, case: &[u8], got: &[u8], want: &[u8]) -> Tally {
-    io::write_all(STDOUT_FILENO, case);
-    print::say(b": ", got.len());
+pub fn bytes(rt: &impl Print, t: Tally, case: &[u8], got: &[u8], want: &[u8]) -> io::Result<Tally> {
+    print::tell(rt, case)?;
+    print::say(rt, b": ", got.len())?;
     if got.len() == 1 {
-        io::write_all(STDOUT_FILENO, b" byte");
+        print::tell(rt, b" byte")?;
     } else {
-        io::write_all(STDOUT_FILENO, b" bytes");
+        print::tell(rt, b" bytes")?;
     }
-    print::write_hex(got);
+    print::write_hex(rt, got)?;
     if check::same(got, want) {
-        return good(t);
+        return good(rt, t);
     }
-    io::write_all(STDOUT_FILENO, b": NOT as expected:");
-    print::write_hex(want);
-    bad(t)
+    print::tell(rt, b": NOT as expected:")?;
+    print::write_hex(rt, want)?;
+    bad(rt, t)
 }
 
 fn same_words(got: &[u32], want: &[u32]) -> bool {
@@ -56,26 +62,32 @@ fn same_words(got: &[u32], want: &[u32]) -> bool {
 }
 
 // A case whose answer is words.
-pub fn words(t: Tally, case: &[u8], got: &[u32], want: &[u32]) -> Tally {
-    io::write_all(STDOUT_FILENO, case);
-    io::write_all(STDOUT_FILENO, b":");
-    print::write_words(got);
+pub fn words(
+    rt: &impl Print,
+    t: Tally,
+    case: &[u8],
+    got: &[u32],
+    want: &[u32],
+) -> io::Result<Tally> {
+    print::tell(rt, case)?;
+    print::tell(rt, b":")?;
+    print::write_words(rt, got)?;
     if same_words(got, want) {
-        return good(t);
+        return good(rt, t);
     }
-    io::write_all(STDOUT_FILENO, b": NOT as expected:");
-    print::write_words(want);
-    bad(t)
+    print::tell(rt, b": NOT as expected:")?;
+    print::write_words(rt, want)?;
+    bad(rt, t)
 }
 
 // A line that is no case.
-pub fn no_case(t: Tally) -> Tally {
-    io::write_all(STDOUT_FILENO, b"NOT a line of the table");
-    bad(t)
+pub fn no_case(rt: &impl Print, t: Tally) -> io::Result<Tally> {
+    print::tell(rt, b"NOT a line of the table")?;
+    bad(rt, t)
 }
 
-pub fn close(t: Tally) {
-    print::say(b"", t.cases);
-    print::say(b" cases, ", t.wrong);
-    io::write_all(STDOUT_FILENO, b" not as expected\n");
+pub fn close(rt: &impl Print, t: Tally) -> io::Result<()> {
+    print::say(rt, b"", t.cases)?;
+    print::say(rt, b" cases, ", t.wrong)?;
+    print::tell(rt, b" not as expected\n")
 }

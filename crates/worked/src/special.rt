@@ -1,21 +1,34 @@
 // The cases that a line of text does not say: rooms, parts, and long inputs.
 use crate::report::{bytes, number, words};
-use libc::STDOUT_FILENO;
+use std::io;
 use tally::Tally;
 
 // The empty dictionary into a room: the code, the room after it, and the code of the verdict on that.
-fn empty(t: Tally, room: &mut [u8], code: usize, want: &[u8], verdict: usize) -> Tally {
-    io::write_all(STDOUT_FILENO, b"the empty dictionary into a room of ");
-    print::say(b"", room.len());
-    let t = number(t, b"", lichenhusk::lichenhusk_empty(room) as usize, code);
-    let t = bytes(t, b"the room after it", room, want);
-    number(t, b"its verdict", ask::dictionary(room).code, verdict)
+fn empty(
+    rt: &impl Print,
+    t: Tally,
+    room: &mut [u8],
+    code: usize,
+    want: &[u8],
+    verdict: usize,
+) -> io::Result<Tally> {
+    print::tell(rt, b"the empty dictionary into a room of ")?;
+    print::say(rt, b"", room.len())?;
+    let t = number(
+        rt,
+        t,
+        b"",
+        lichenhusk::lichenhusk_empty(room) as usize,
+        code,
+    )?;
+    let t = bytes(rt, t, b"the room after it", room, want)?;
+    number(rt, t, b"its verdict", ask::dictionary(room).code, verdict)
 }
 
-pub fn rooms(t: Tally) -> Tally {
-    let t = empty(t, &mut [9; 2], 42, b"\x09\x09", 12);
-    let t = empty(t, &mut [9; 3], 0, b"\x01\x00\x00", 0);
-    empty(t, &mut [9; 5], 0, b"\x01\x00\x00\x09\x09", 0)
+pub fn rooms(rt: &impl Print, t: Tally) -> io::Result<Tally> {
+    let t = empty(rt, t, &mut [9; 2], 42, b"\x09\x09", 12)?;
+    let t = empty(rt, t, &mut [9; 3], 0, b"\x01\x00\x00", 0)?;
+    empty(rt, t, &mut [9; 5], 0, b"\x01\x00\x00\x09\x09", 0)
 }
 
 // Whether P with the byte `b` after it has P's numbers.
@@ -56,21 +69,30 @@ fn word_after(ends: &[u32], k: usize) -> usize {
 }
 
 // The words after those of the names stay, and with a refusal all do.
-fn words_that_stay(t: Tally) -> Tally {
+fn words_that_stay(rt: &impl Print, t: Tally) -> io::Result<Tally> {
     let t = number(
+        rt,
         t,
         b"P, three names into 16 words of 9, word 14",
         word_after(&[4, 7, 11], 14),
         10,
-    );
-    let t = number(t, b"word 15, which stays", word_after(&[4, 7, 11], 15), 9);
+    )?;
     let t = number(
+        rt,
+        t,
+        b"word 15, which stays",
+        word_after(&[4, 7, 11], 15),
+        9,
+    )?;
+    let t = number(
+        rt,
         t,
         b"an end that falls, word 0, which stays",
         word_after(&[4, 3, 11], 0),
         9,
-    );
+    )?;
     number(
+        rt,
         t,
         b"four names into 16 words, word 0, which stays",
         word_after(&[4, 7, 11, 11], 0),
@@ -79,69 +101,75 @@ fn words_that_stay(t: Tally) -> Tally {
 }
 
 // Six words of 9 after an object over D with a field of a byte and one of no bytes is refused: by the listing, and by many names.
-fn words_of_refused(t: Tally) -> Tally {
+fn words_of_refused(rt: &impl Print, t: Tally) -> io::Result<Tally> {
     let d = b"\x11\x02\x00\x04\x08flowroll";
     let o = b"\x02\x02\x00\x01\x00\x01\x01\x00";
     let mut listed = [9u32; 6];
     let t = number(
+        rt,
         t,
         b"field 1 of no bytes, listed into six words of 9",
         ask_into::list(d, o, &mut listed).code,
         28,
-    );
-    let t = words(t, b"the words, which stay", &listed, &[9; 6]);
+    )?;
+    let t = words(rt, t, b"the words, which stay", &listed, &[9; 6])?;
     let mut row = [9u32; 6];
     let t = number(
+        rt,
         t,
         b"its \"flow\" into six words of 9",
         ask_into::lookup_all(d, o, b"flow", &[4; 1], &mut row).code,
         28,
-    );
-    words(t, b"the words, which stay", &row, &[9; 6])
+    )?;
+    words(rt, t, b"the words, which stay", &row, &[9; 6])
 }
 
 // Six words of 9 after the listing of an object over D whose second child is of type 21: the first is measured, and nothing is written.
-fn words_of_unmeasured(t: Tally) -> Tally {
+fn words_of_unmeasured(rt: &impl Print, t: Tally) -> io::Result<Tally> {
     let d = b"\x11\x02\x00\x04\x08flowroll";
     let o = b"\x02\x02\x00\x01\x00\x02\x03\x0C\xFB\x54";
     let mut listed = [9u32; 6];
     let t = number(
+        rt,
         t,
         b"field 1 of type 21, listed into six words of 9",
         ask_into::list(d, o, &mut listed).code,
         43,
-    );
-    words(t, b"the words, which stay", &listed, &[9; 6])
+    )?;
+    words(rt, t, b"the words, which stay", &listed, &[9; 6])
 }
 
 // A value over D as a tree, with three marks of 9: the code, and the marks after it.
 fn marked(
+    rt: &impl Print,
     t: Tally,
     case: &[u8],
     value: &[u8],
     strip: &mut [u8],
     code: usize,
     want: &[u8],
-) -> Tally {
+) -> io::Result<Tally> {
     let mut marks = [9u8; 3];
     let d = b"\x11\x02\x00\x04\x08flowroll";
     let got = lichenhusk::lichenhusk_tree(d, value, &mut marks, strip);
-    let t = number(t, case, got as usize, code);
-    bytes(t, b"the marks, three of 9, after it", &marks, want)
+    let t = number(rt, t, case, got as usize, code)?;
+    bytes(rt, t, b"the marks, three of 9, after it", &marks, want)
 }
 
-fn marks_after(t: Tally) -> Tally {
+fn marks_after(rt: &impl Print, t: Tally) -> io::Result<Tally> {
     let p = b"\x02\x02\x00\x01\x01\x00\x03\x04\x0C\xFB";
-    let t = marked(t, b"P as a tree", p, &mut [9; 24], 0, b"\x00\x00\x00");
+    let t = marked(rt, t, b"P as a tree", p, &mut [9; 24], 0, b"\x00\x00\x00")?;
     let t = marked(
+        rt,
         t,
         b"type 21 as a tree",
         b"\x54",
         &mut [9; 24],
         51,
         b"\x00\x00\x00",
-    );
+    )?;
     marked(
+        rt,
         t,
         b"P as a tree, a strip of 23",
         p,
@@ -159,16 +187,18 @@ fn long(first: u8) -> [u8; 65537] {
     bytes
 }
 
-fn long_dictionary(t: Tally) -> Tally {
+fn long_dictionary(rt: &impl Print, t: Tally) -> io::Result<Tally> {
     let dict = long(1);
     let n: usize = 65536;
     let t = number(
+        rt,
         t,
         b"01 00 00 in 65537 bytes",
         ask::dictionary(&dict).code,
         0,
-    );
+    )?;
     number(
+        rt,
         t,
         b"01 00 00 in 65536 bytes",
         ask::dictionary(&dict[0..n]).code,
@@ -176,17 +206,19 @@ fn long_dictionary(t: Tally) -> Tally {
     )
 }
 
-fn long_object(t: Tally) -> Tally {
+fn long_object(rt: &impl Print, t: Tally) -> io::Result<Tally> {
     let empty = b"\x01\x00\x00";
     let object = long(2);
     let n: usize = 65536;
     let t = number(
+        rt,
         t,
         b"02 00 00 in 65537 bytes",
         ask::layer(empty, &object).code,
         0,
-    );
+    )?;
     number(
+        rt,
         t,
         b"02 00 00 in 65536 bytes",
         ask::layer(empty, &object[0..n]).code,
@@ -195,13 +227,18 @@ fn long_object(t: Tally) -> Tally {
 }
 
 // What has no line of a table, but the rooms of the empty dictionary.
-pub fn run(t: Tally) -> Tally {
-    let t = marks_after(words_of_unmeasured(words_of_refused(words_that_stay(t))));
+pub fn run(rt: &impl Print, t: Tally) -> io::Result<Tally> {
+    let t = words_that_stay(rt, t)?;
+    let t = words_of_refused(rt, t)?;
+    let t = words_of_unmeasured(rt, t)?;
+    let t = marks_after(rt, t)?;
     let t = number(
+        rt,
         t,
         b"P and any byte, \"flow\" found as in P",
         bytes_after_p(),
         256,
-    );
-    long_object(long_dictionary(t))
+    )?;
+    let t = long_dictionary(rt, t)?;
+    long_object(rt, t)
 }

@@ -8,25 +8,26 @@ use lichenhusk::{lichenhusk_write_dictionary, lichenhusk_write_object};
 use operands::Tail;
 use print::wide;
 use slices::{first, part_of};
+use std::io;
 use tally::Tally;
 
-#[derive(Drop)]
+#[derive(Clone, Copy)]
 pub enum What {
     Dictionary,
     Object,
 }
 
-fn tell(what: What, given: &[u8], numbers: &[u32]) {
+fn tell(rt: &impl Print, what: What, given: &[u8], numbers: &[u32]) -> io::Result<()> {
     match what {
         What::Dictionary => {
-            print::tell(given);
-            print::tell(b", ends");
+            print::tell(rt, given)?;
+            print::tell(rt, b", ends")?;
         }
         What::Object => {
-            print::tell(b"pairs");
+            print::tell(rt, b"pairs")?;
         }
     }
-    print::write_words(numbers);
+    print::write_words(rt, numbers)
 }
 
 fn write(
@@ -47,6 +48,7 @@ fn write(
 
 // The code, and the room after the call.
 fn written(
+    rt: &impl Print,
     t: Tally,
     what: What,
     dict: &[u8],
@@ -58,17 +60,18 @@ fn written(
     strip: &mut [u8],
     code: usize,
     want: &[u8],
-) -> Tally {
-    tell(what, given, numbers);
-    print::say(b", scratch of ", order.len());
-    print::say(b" and ", spare.len());
+) -> io::Result<Tally> {
+    tell(rt, what, given, numbers)?;
+    print::say(rt, b", scratch of ", order.len())?;
+    print::say(rt, b" and ", spare.len())?;
     let got = write(what, dict, given, numbers, order, spare, room, strip);
-    let t = number(t, b" words", got as usize, code);
-    bytes(t, b"the room after it", room, want)
+    let t = number(rt, t, b" words", got as usize, code)?;
+    bytes(rt, t, b"the room after it", room, want)
 }
 
 // `numbers` are ORDER, SPARE, STRIP and the others.
 fn in_rooms(
+    rt: &impl Print,
     t: Tally,
     what: What,
     dict: &[u8],
@@ -76,19 +79,20 @@ fn in_rooms(
     want: &[u8],
     code: usize,
     numbers: &[u32],
-) -> Tally {
+) -> io::Result<Tally> {
     let k = numbers.len();
     let n = want.len();
     if k < 3 || 16 < n {
-        return no_case(t);
+        return no_case(rt, t);
     }
     let order = wide(numbers[0]);
     let spare = wide(numbers[1]);
     let strip = wide(numbers[2]);
     if 8 < order || 8 < spare || 24 < strip {
-        return no_case(t);
+        return no_case(rt, t);
     }
     written(
+        rt,
         t,
         what,
         dict,
@@ -103,7 +107,7 @@ fn in_rooms(
     )
 }
 
-pub fn case(t: Tally, what: What, line: &[u8]) -> Tally {
+pub fn case(rt: &impl Print, t: Tally, what: What, line: &[u8]) -> io::Result<Tally> {
     let mut dict = [0u8; 16];
     let mut given = [0u8; 16];
     let mut want = [0u8; 16];
@@ -119,9 +123,10 @@ pub fn case(t: Tally, what: What, line: &[u8]) -> Tally {
         &mut numbers,
     );
     if read.fault != 0 {
-        return no_case(t);
+        return no_case(rt, t);
     }
     in_rooms(
+        rt,
         t,
         what,
         part_of(&dict, 0, read.one),

@@ -1,4 +1,6 @@
 // Writing a sorted dictionary from names (document 02, j).
+#![tactic(auto)]
+
 ghost use Rattle.run.specs.Meaning.{GoodEnds};
 ghost use Rattle.fill.specs.Steps.{list_of, Planned};
 ghost use Rattle.write.specs.Steps.{Finished};

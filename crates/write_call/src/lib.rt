@@ -1,4 +1,6 @@
 // The call that writes a sorted dictionary. It is `lichenhusk`'s by one line, and its promise is proved here.
+#![tactic(auto)]
+
 ghost use Rattle.write_call.specs.Promises.{WritePromise};
 
 use strip::STRIP;

@@ -1,9 +1,11 @@
 // Writing an object layer from pairs over a dictionary (document 02, k).
+#![tactic(auto)]
+
 ghost use Rattle.std.specs.Prelude.{◌≡◌};
 ghost use Rattle.rules.specs.Rules.{◌or_else◌};
 ghost use Rattle.source.specs.Pairs.{pairs};
 ghost use Rattle.source.specs.Names.{Entries, Over, GoodRanges};
-ghost use Rattle.doubles.specs.Doubles.{checks as doubleChecks};
+ghost use Rattle.doubles.specs.Doubles.{checks as double_checks};
 ghost use Rattle.pairs.specs.Checks.{pair_name, largest, id_checks, range_checks, empty_checks};
 ghost use Rattle.builder.specs.Bytes.{size};
 ghost use Rattle.builder.specs.Steps.{Ready};
@@ -123,7 +125,7 @@ fn with_names(
     sorted: bool,
 ) -> Built
     requires { Over dict.now names sorted × Entries dict.now words.now × (most ≡ largest words.now (pairs words.now)) }
-    ensures { Left (doubleChecks (pair_name dict.now words.now) (pairs words.now) or_else range_checks bytes.now words.now or_else empty_checks words.now or_else size_checks (size dict.now bytes.now words.now) room.old) dict.now bytes.now words.now room.old room.new result }
+    ensures { Left (double_checks (pair_name dict.now words.now) (pairs words.now) or_else range_checks bytes.now words.now or_else empty_checks words.now or_else size_checks (size dict.now bytes.now words.now) room.old) dict.now bytes.now words.now room.old room.new result }
 {
     let doubles = doubles::check(
         dict,

@@ -1,4 +1,6 @@
 // The call that writes an object layer. It is `lichenhusk`'s by one line, and its promise is proved here.
+#![tactic(auto)]
+
 ghost use Rattle.std.specs.Prelude.{◌≡◌};
 ghost use Rattle.write_object.specs.Answers.{built_numbers};
 ghost use Rattle.strip.specs.Shapes.{words_of, layer_shape};

@@ -1,9 +1,11 @@
 // The steps of a path, measured and then written into lent bytes and words.
+#![tactic(auto)]
+
 ghost use Rattle.std.specs.Prelude.{◌≡◌, false, ◌+◌, ◌≤◌, ◌<◌, [], ◌∷◌, length, take, drop};
 ghost use Rattle.std.proofs.lemmas.List.Edits.{sets};
 ghost use Rattle.width.specs.Limits.{u32_max};
 ghost use Rattle.brackets.specs.Brackets.{content};
-ghost use Rattle.steps.specs.Path.{parse as parseOf};
+ghost use Rattle.steps.specs.Path.{parse as parse_of};
 ghost use Rattle.writing.specs.Written.{names_of, words_of};
 ghost use Rattle.writing.specs.Steps.{ExtentOf, MeasureOf, Due, WroteOf, Room, steps_in};
 
@@ -96,7 +98,7 @@ fn put_row(words: &mut [u32], row: usize, kind: usize, first: usize, second: usi
 }
 
 // What a written step took: bytes of the names, and bytes of the path after its first.
-#[derive(Drop)]
+#[derive(Clone, Copy)]
 struct Wrote {
     len: usize,
     more: usize,
@@ -137,8 +139,8 @@ fn write_step(
 // All steps.
 pub fn write_steps(path: &[u8], names: &mut [u8], words: &mut [u32])
     requires { Room path.now names.old words.old }
-    ensures names_after { names.new ≡ sets names.old 0 (names_of (steps_in (parseOf 0 path.now))) }
-    ensures words_after { words.new ≡ sets words.old 0 (words_of 0 (steps_in (parseOf 0 path.now))) }
+    ensures names_after { names.new ≡ sets names.old 0 (names_of (steps_in (parse_of 0 path.now))) }
+    ensures words_after { words.new ≡ sets words.old 0 (words_of 0 (steps_in (parse_of 0 path.now))) }
 {
     let mut at = 0;
     let mut used = 0;

@@ -1,7 +1,8 @@
 //! The clock: check and lookup together, the found field's id, its value, UTF-8 alone, many names of
 //! one message, all of its fields, whole trees, paths, dictionaries and objects that are written, and
-//! larger messages, ours and the Rust's, in one process; and, where it is asked for, trees that are made
-//! to take long, and dictionaries and objects of very many names, ours alone.
+//! larger messages, ours and the Rust's, in one process; dictionaries in pieces, against copying them;
+//! and, where it is asked for, trees that are made to take long, and dictionaries and objects of very many
+//! names, ours alone.
 //!
 //! `cargo run --profile measured -p bench`; with `-- large`, or another word of `TABLES`, that
 //! table alone
@@ -14,6 +15,7 @@ mod listing;
 mod many;
 mod objects;
 mod paths;
+mod pieces;
 mod rows;
 mod sides;
 mod texts;
@@ -28,7 +30,7 @@ use std::process::{Command, exit};
 use std::{env, fs};
 
 /// The tables, in their order, and the word for each.
-const TABLES: [(&str, fn()); 12] = [
+const TABLES: [(&str, fn()); 13] = [
     ("lookup", lookups),
     ("ids", ids_too),
     ("values", values_read),
@@ -40,6 +42,7 @@ const TABLES: [(&str, fn()); 12] = [
     ("paths", followed_paths),
     ("writing", written_dictionaries),
     ("objects", written_objects),
+    ("pieces", dictionaries_in_pieces),
     ("large", large_messages),
 ];
 
@@ -166,6 +169,15 @@ seven, or the one where it takes longer than two seconds; then nanoseconds for e
 scratch the time grows with the square of the fields: where a call is likely to take more than half a
 minute it is not made, and the time that the square tells is printed in brackets. Names have twelve
 letters, over a sorted dictionary that has no others; each child is an eight-bit integer.";
+
+/// The same for the table of dictionaries in pieces.
+const PIECES_LEGEND: &str = "\
+A dictionary in pieces of so many bytes: microseconds for all of them.
+  ours      lichenhusk::raw::begin, then lichenhusk::raw::feed of each piece
+  Pieces    lichenhusk::Pieces, the host's own type: new, then feed of each piece
+  copy      copy_from_slice of each piece, then lichenhusk::dictionary of all bytes
+  /piece    nanoseconds for each piece
+The ratios are to the column copy. The Rust has no such call. Names have twelve letters.";
 
 /// The same for the table of trees that are made to take long.
 const ADVERSARIAL_LEGEND: &str = "\
@@ -330,6 +342,29 @@ fn written_objects() {
             writer / builder,
             a_field(ours),
             a_field(theirs),
+        );
+    }
+}
+
+/// The table of dictionaries in pieces.
+fn dictionaries_in_pieces() {
+    println!("{PIECES_LEGEND}\n");
+    println!(
+        "{:<30}{:>10}{:>8}{:>12}{:>12}{:>12}{:>7}{:>7}{:>10}{:>10}",
+        "row", "dict", "piece", "ours", "Pieces", "copy", "ratio", "ratio", "/piece", "c/piece"
+    );
+    for row in pieces::rows() {
+        let [ours, wrapped, copied] = pieces::measured(&row).map(|nanos| nanos / 1000.0);
+        let a_piece = |micros: f64| micros * 1000.0 / row.count() as f64;
+        println!(
+            "{:<30}{:>10}{:>8}{ours:>12.1}{wrapped:>12.1}{copied:>12.1}{:>7.2}{:>7.2}{:>10.1}{:>10.1}",
+            row.label,
+            row.dict.len(),
+            row.piece,
+            ours / copied,
+            wrapped / copied,
+            a_piece(ours),
+            a_piece(copied),
         );
     }
 }

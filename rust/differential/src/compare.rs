@@ -21,8 +21,8 @@
 //! tells it, or is refused with 43 for a child that the Rust refuses: [`listing`](crate::listing) has
 //! that. Each child is read as a value, and [`values`](crate::values) has what must agree of that. Of
 //! a value as a whole tree, [`tree`](crate::tree) has it, [`path`](crate::path) of a path into one,
-//! [`writing`](crate::writing) of a dictionary that is written, and [`composing`](crate::composing) of an
-//! object that is.
+//! [`writing`](crate::writing) of a dictionary that is written, [`composing`](crate::composing) of an
+//! object that is, and [`feeding`](crate::feeding) of a dictionary that comes in pieces.
 //!
 //! Of our own answers besides: each function gives the same refusal; an accepted layer's numbers
 //! are those of its header; a lookup's id is that of its field; words after a listing, and all words
@@ -32,6 +32,7 @@
 //! whole check.
 
 use crate::composing::Composing;
+use crate::feeding::Feeding;
 use crate::lengths::Values;
 use crate::listing::Listing;
 use crate::many::Many;
@@ -132,7 +133,8 @@ pub fn agree<T: PartialEq + Debug>(asked: &str, ours: T, theirs: T) -> Compared 
 /// A dictionary that was compared, for objects over it.
 pub struct Known<'d> {
     dict: &'d [u8],
-    ours: Strip,
+    /// Our answer to it.
+    pub ours: Strip,
     theirs: Option<VariantMetadata<'d>>,
 }
 
@@ -159,6 +161,10 @@ pub fn input(reader: &impl Reader, input: &Input, tally: &mut Tally) -> Compared
             pairs,
         };
         composing.compare(tally)?;
+    }
+    if let Some(cuts) = &input.pieces {
+        let dict = known.dict;
+        Feeding { reader, dict, cuts }.compare(tally)?;
     }
     match &input.object {
         Some(bytes) => object(reader, &known, bytes, input.query.as_deref(), tally),

@@ -5,6 +5,7 @@ use crate::compare::bad_offsets;
 use crate::given::Given;
 use crate::many::bad_ends;
 use crate::miscomposing::Miscomposing;
+use crate::misfeeding::Misfeeding;
 use crate::miswriting::{Lent, Miswriting};
 use crate::ours::{Reader, absent, accepted, found, refused, refused_at};
 use crate::pairs::Pairs;
@@ -616,10 +617,96 @@ pub enum Fault {
     WritesShortObjectScratch,
     /// Takes what scratch held before for the order of the fields.
     TrustsObjectOrder,
+    /// Begins pieces with a strip of zeros, which is settled.
+    BeginsSettled,
+    /// Says of no pieces that no bytes are wanted.
+    BeginsWithoutWanted,
+    /// Copies each piece to the store's start.
+    CopiesToTheStart,
+    /// Counts the last piece alone as held.
+    ForgetsHeld,
+    /// Says 13 where more is wanted.
+    SettlesShort,
+    /// Says 11 where more is wanted.
+    SettlesEmpty,
+    /// Takes a piece of no bytes for the end of all.
+    EmptyPieceEnds,
+    /// Says of names that end inside a character that more is wanted.
+    CutTextIsMore,
+    /// Says of a sum past 32 bits that more is wanted.
+    SumIsMore,
+    /// Accepts a dictionary in pieces by its offsets, before its names are there.
+    HeaderIsEnough,
+    /// Says 44 where the store is just full.
+    FullIsNoRoom,
+    /// Says that more is wanted where more has come than there is room for.
+    MorePastRoom,
+    /// Says 44 to a piece for which there is no room before it judges.
+    NoRoomFirst,
+    /// Copies nothing of a piece for which there is no room.
+    DropsLongPieces,
+    /// Leaves the store's last byte.
+    LeavesLastByte,
+    /// Judges the last piece alone.
+    JudgesThePiece,
+    /// Judges the whole store.
+    JudgesTheStore,
+    /// Judges what was held before the piece.
+    JudgesBeforeCopying,
+    /// Judges nothing before as many bytes are held as the strip says are wanted.
+    ReadsWantedBack,
+    /// Judges more bytes than the limit.
+    NoPiecesLimit,
+    /// Holds a byte fewer than the limit.
+    PiecesLimitOneLess,
+    /// Says 10 where more has come than the limit.
+    TenForNoRoom,
+    /// Takes a piece after an accepted dictionary for the next one's first.
+    BeginsAgain,
+    /// Copies pieces that come when all is settled.
+    WritesAfterSettling,
+    /// Forgets 44 with the next piece.
+    ForgetsNoRoom,
+    /// Says 44 to a code that it does not know.
+    UnknownIsNoRoom,
+    /// Takes a state that counts past its store for one that is full.
+    TakesPastStates,
+    /// Writes the piece under 44 to a state that counts past its store.
+    WritesPastStates,
+    /// Writes a byte after the piece.
+    WritesAfterPiece,
+    /// Clears what comes after the piece.
+    ClearsTheStore,
+    /// Says that a byte more than are held is wanted.
+    WantsOneMore,
+    /// Says how many bytes are wanted beside those that are held.
+    WantsTheRest,
+    /// Does not say how many bytes are wanted.
+    WantsNothing,
+    /// Says that no more bytes are wanted than there is room for.
+    WantsWithinRoom,
+    /// Says of the names how long they are, and not where they end.
+    WantsNamesAlone,
+    /// Wants the offsets without the last of them.
+    WantsNoLastOffset,
+    /// Wants a count of one byte, whatever the width.
+    WantsShortCounts,
+    /// Says how many bytes are wanted in two bytes.
+    WantedOfTwoBytes,
+    /// Says how many bytes are held in two bytes.
+    HeldOfTwoBytes,
+    /// Leaves the other words of a state where more is wanted.
+    KeepsOtherWords,
+    /// Says how many bytes are held for the count of an accepted one.
+    HeldForCount,
+    /// Says of an accepted one that it ends where the pieces do.
+    UntrimmedPieces,
+    /// Says what is refused of pieces without its place.
+    NoPlaceInPieces,
 }
 
 /// Every fault.
-pub const ALL: [Fault; 300] = [
+pub const ALL: [Fault; 343] = [
     Fault::AlwaysShort,
     Fault::AbsentIsFound,
     Fault::AlwaysAbsent,
@@ -920,6 +1007,49 @@ pub const ALL: [Fault; 300] = [
     Fault::NoObjectWithoutScratch,
     Fault::WritesShortObjectScratch,
     Fault::TrustsObjectOrder,
+    Fault::BeginsSettled,
+    Fault::BeginsWithoutWanted,
+    Fault::CopiesToTheStart,
+    Fault::ForgetsHeld,
+    Fault::SettlesShort,
+    Fault::SettlesEmpty,
+    Fault::EmptyPieceEnds,
+    Fault::CutTextIsMore,
+    Fault::SumIsMore,
+    Fault::HeaderIsEnough,
+    Fault::FullIsNoRoom,
+    Fault::MorePastRoom,
+    Fault::NoRoomFirst,
+    Fault::DropsLongPieces,
+    Fault::LeavesLastByte,
+    Fault::JudgesThePiece,
+    Fault::JudgesTheStore,
+    Fault::JudgesBeforeCopying,
+    Fault::ReadsWantedBack,
+    Fault::NoPiecesLimit,
+    Fault::PiecesLimitOneLess,
+    Fault::TenForNoRoom,
+    Fault::BeginsAgain,
+    Fault::WritesAfterSettling,
+    Fault::ForgetsNoRoom,
+    Fault::UnknownIsNoRoom,
+    Fault::TakesPastStates,
+    Fault::WritesPastStates,
+    Fault::WritesAfterPiece,
+    Fault::ClearsTheStore,
+    Fault::WantsOneMore,
+    Fault::WantsTheRest,
+    Fault::WantsNothing,
+    Fault::WantsWithinRoom,
+    Fault::WantsNamesAlone,
+    Fault::WantsNoLastOffset,
+    Fault::WantsShortCounts,
+    Fault::WantedOfTwoBytes,
+    Fault::HeldOfTwoBytes,
+    Fault::KeepsOtherWords,
+    Fault::HeldForCount,
+    Fault::UntrimmedPieces,
+    Fault::NoPlaceInPieces,
 ];
 
 impl Fault {
@@ -962,7 +1092,13 @@ impl Fault {
 
     /// Whether it is one of an object that is written, which [`miscomposing`](crate::miscomposing) has.
     pub fn is_of_objects(self) -> bool {
-        self as usize >= Fault::FieldsAsGiven as usize
+        let of_objects = Fault::FieldsAsGiven as usize..=Fault::TrustsObjectOrder as usize;
+        of_objects.contains(&(self as usize))
+    }
+
+    /// Whether it is one of a dictionary that comes in pieces, which [`misfeeding`](crate::misfeeding) has.
+    pub fn is_of_pieces(self) -> bool {
+        self as usize >= Fault::BeginsSettled as usize
     }
 
     /// How many levels it lets a tree have.
@@ -1056,6 +1192,14 @@ pub struct Faulty<R> {
 }
 
 impl<R: Reader> Faulty<R> {
+    /// What takes pieces in by the fault.
+    fn misfeeding(&self) -> Misfeeding<'_, R> {
+        Misfeeding {
+            reader: &self.reader,
+            fault: Some(self.fault),
+        }
+    }
+
     /// The refusals that a fault turns into acceptance.
     fn takes(&self, code: u32) -> bool {
         match self.fault {
@@ -1557,5 +1701,19 @@ impl<R: Reader> Reader for Faulty<R> {
             fault: Some(self.fault),
         };
         writer.answer(pairs, Lent { order, spare, room })
+    }
+
+    fn begin(&self) -> Strip {
+        match self.fault.is_of_pieces() {
+            true => self.misfeeding().begin(),
+            false => self.reader.begin(),
+        }
+    }
+
+    fn feed(&self, store: &mut [u8], piece: &[u8], state: Strip) -> Strip {
+        match self.fault.is_of_pieces() {
+            true => self.misfeeding().feed(store, piece, state),
+            false => self.reader.feed(store, piece, state),
+        }
     }
 }

@@ -123,7 +123,7 @@ pub fn all_fields(names: &[Vec<u8>], dict: DictionaryShape, object: ObjectShape)
     }
 }
 
-fn padded(bytes: &[u8], length: usize) -> Vec<u8> {
+pub(crate) fn padded(bytes: &[u8], length: usize) -> Vec<u8> {
     let mut bytes = bytes.to_vec();
     bytes.resize(length, 0xFF);
     bytes
@@ -175,7 +175,7 @@ pub fn object_shape(id_width: usize, offset_width: usize, long_count: bool) -> O
 }
 
 /// A dictionary of one name, so long that the whole has a length.
-fn one_name(length: usize, shape: DictionaryShape) -> Vec<u8> {
+pub(crate) fn one_name(length: usize, shape: DictionaryShape) -> Vec<u8> {
     let head = 1 + 3 * shape.width;
     encode::dictionary(&[vec![b'n'; length - head]], shape)
 }

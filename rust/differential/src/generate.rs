@@ -13,12 +13,7 @@ pub const DEEPEST: usize = 8;
 /// A dictionary and an object over it.
 pub fn good(random: &mut Random) -> Input {
     let (names, sorted) = names(random);
-    let shape = DictionaryShape {
-        width: dictionary_width(random, &names),
-        sorted,
-        spare: random.one_in(8),
-    };
-    let mut dict = encode::dictionary(&names, shape);
+    let mut dict = dictionary_of(random, &names, sorted);
     let levels = random.between(0, DEEPEST - 1);
     // The first few children have levels in them.
     let mut depths = repeat_n(levels, 4);
@@ -46,8 +41,18 @@ pub(crate) fn append_bytes(random: &mut Random, bytes: &mut Vec<u8>) {
     }
 }
 
+/// The dictionary of names, which increase where it says so, in any of the widths that hold its numbers.
+pub(crate) fn dictionary_of(random: &mut Random, names: &[Vec<u8>], sorted: bool) -> Vec<u8> {
+    let shape = DictionaryShape {
+        width: dictionary_width(random, names),
+        sorted,
+        spare: random.one_in(8),
+    };
+    encode::dictionary(names, shape)
+}
+
 /// A width that holds the dictionary's numbers.
-pub(crate) fn dictionary_width(random: &mut Random, names: &[Vec<u8>]) -> usize {
+fn dictionary_width(random: &mut Random, names: &[Vec<u8>]) -> usize {
     let total = names.iter().map(Vec::len).sum::<usize>();
     random.between(least_width(total.max(names.len())), 4)
 }

@@ -1,7 +1,7 @@
 //! Larger messages: dictionaries and objects of more than 65,536 bytes, up to the limit and a byte
 //! over it; numbers about those at which two and three bytes end; and generated ones.
 
-use crate::encode::{self, DictionaryShape, least_width};
+use crate::encode::{self, least_width};
 use crate::fixed::{self, SORTED, lengths_about, numbered, object_shape, of_length, shape};
 use crate::generate::{self, outer_object};
 use crate::random::Random;
@@ -154,12 +154,7 @@ pub fn good(random: &mut Random) -> Input {
     let size = size(random);
     let (large_dict, large_object) = random.pick(&[(true, true), (true, false), (false, true)]);
     let (names, sorted) = names(random, if large_dict { size } else { 64 });
-    let shape = DictionaryShape {
-        width: generate::dictionary_width(random, &names),
-        sorted,
-        spare: random.one_in(8),
-    };
-    let mut dict = encode::dictionary(&names, shape);
+    let mut dict = generate::dictionary_of(random, &names, sorted);
     let mut object = match (large_dict, large_object) {
         (true, true) if random.one_in(2) => outer_object(random, &names, usize::MAX, small_child),
         (_, true) => long_children(random, &names, size),
@@ -177,6 +172,17 @@ pub fn good(random: &mut Random) -> Input {
         query: Some(generate::name(random)),
         ..Input::default()
     }
+}
+
+/// A large dictionary alone.
+pub(crate) fn dictionary(random: &mut Random) -> Vec<u8> {
+    let size = size(random);
+    let (names, sorted) = names(random, size);
+    let mut dict = generate::dictionary_of(random, &names, sorted);
+    if random.one_in(4) {
+        append_bytes(random, &mut dict);
+    }
+    dict
 }
 
 /// A size from just above that of what is large up to the limit: each doubling as often as any

@@ -4,22 +4,26 @@
 //! [`values`] of a value that is read; [`tree`] has what must agree of a whole tree, by a [`reference`]
 //! and by the Rust but for what is [`otherwise`] there; [`path`] of a path into a value, by a
 //! [`spelling`] of its text and a [`walk`], and by the Rust; [`writing`] of a dictionary that is written
-//! of the names that are [`given`], and [`composing`] of an object of [`pairs`]. [`ours`] and
-//! [`original`] are the two sides, and [`lengths`] has what the Rust tells of children's lengths;
-//! [`fixed`], [`exhaustive`], [`children`], [`extremes`], [`long_names`], [`generate`], [`large`],
-//! [`trees`], [`paths`], [`sets`], [`objects`] and [`damage`] make the inputs; [`run`] goes through them,
-//! counting in a [`tally`], and has [`shrink`] make an input that disagrees as small as it can.
-//! [`faults`] are wrong readers, some of them by [`miswriting`] and [`miscomposing`]. [`replay`] writes
-//! answers of the Rust's down, to be asked again where it is not at hand.
+//! of the names that are [`given`], [`composing`] of an object of [`pairs`], and [`feeding`] of a
+//! dictionary that comes in pieces, by its [`cuts`]. [`ours`] and [`original`] are the two sides, and
+//! [`lengths`] has what the Rust tells of children's lengths; [`fixed`], [`exhaustive`], [`children`],
+//! [`extremes`], [`long_names`], [`generate`], [`large`], [`trees`], [`paths`], [`sets`], [`objects`],
+//! [`cuttings`] and [`damage`] make the inputs; [`run`] goes through them, counting in a [`tally`], and has
+//! [`shrink`] make an input that disagrees as small as it can. [`faults`] are wrong readers, some of them
+//! by [`miswriting`], [`miscomposing`] and [`misfeeding`]. [`replay`] writes answers of the Rust's down, to
+//! be asked again where it is not at hand.
 
 pub mod children;
 pub mod compare;
 pub mod composing;
+pub mod cuts;
+pub mod cuttings;
 pub mod damage;
 pub mod encode;
 pub mod exhaustive;
 pub mod extremes;
 pub mod faults;
+pub mod feeding;
 pub mod fixed;
 pub mod generate;
 pub mod given;
@@ -29,6 +33,7 @@ pub mod listing;
 pub mod long_names;
 pub mod many;
 pub mod miscomposing;
+pub mod misfeeding;
 pub mod miswriting;
 pub mod objects;
 pub mod original;
@@ -52,6 +57,7 @@ pub mod values;
 pub mod walk;
 pub mod writing;
 
+use cuts::Cuts;
 use given::Given;
 use pairs::Pairs;
 
@@ -75,6 +81,8 @@ pub struct Input {
     pub names: Option<Given>,
     /// Pairs of which an object is written over the dictionary.
     pub pairs: Option<Pairs>,
+    /// Where the dictionary is cut, to come in pieces.
+    pub pieces: Option<Cuts>,
 }
 
 impl Input {
@@ -129,13 +137,23 @@ impl Input {
         }
     }
 
+    /// A dictionary that comes in pieces.
+    pub fn pieces(dict: Vec<u8>, cuts: Cuts) -> Input {
+        Input {
+            dict,
+            pieces: Some(cuts),
+            ..Input::default()
+        }
+    }
+
     /// How many bytes there are in all.
     pub fn size(&self) -> usize {
         let length = |bytes: &Option<Vec<u8>>| bytes.as_ref().map_or(0, Vec::len);
         let parts = [&self.object, &self.tree, &self.path, &self.query].map(length);
         let names = self.names.as_ref().map_or(0, Given::size);
         let pairs = self.pairs.as_ref().map_or(0, Pairs::size);
-        self.dict.len() + parts.iter().sum::<usize>() + names + pairs
+        let cuts = self.pieces.as_ref().map_or(0, Cuts::size);
+        self.dict.len() + parts.iter().sum::<usize>() + names + pairs + cuts
     }
 }
 

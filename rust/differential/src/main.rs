@@ -1,5 +1,5 @@
 //! The command: `differential short`, `differential long`, `differential trees`, `differential paths`,
-//! `differential writing`, `differential objects` or `differential replay LINES`.
+//! `differential writing`, `differential objects`, `differential pieces` or `differential replay LINES`.
 
 use differential::faults::{ALL, Fault, Faulty};
 use differential::ours::Archive;
@@ -16,6 +16,7 @@ usage: differential short [--seed N]
        differential paths [--seed N] [--inputs N] [--minutes N]
        differential writing [--seed N] [--inputs N] [--minutes N]
        differential objects [--seed N] [--inputs N] [--minutes N]
+       differential pieces [--seed N] [--inputs N] [--minutes N]
        differential replay LINES [--seed N]";
 
 /// How long an input that disagrees is made smaller.
@@ -44,6 +45,9 @@ fn main() -> ExitCode {
         }
         ["objects", ref options @ ..] => {
             read(options).map(|options| long_run(objects(&options), &options))
+        }
+        ["pieces", ref options @ ..] => {
+            read(options).map(|options| long_run(pieces(&options), &options))
         }
         ["replay", lines, ref options @ ..] => emit(lines, options),
         _ => None,
@@ -97,6 +101,7 @@ fn short(options: &Options) -> Settings {
         paths: 40_000,
         written: 40_000,
         composed: 40_000,
+        cut: 40_000,
         part: Part::All,
         every: 3,
         telling: 7,
@@ -114,6 +119,7 @@ fn long(options: &Options) -> Settings {
         paths: 1_000_000,
         written: 1_000_000,
         composed: 1_000_000,
+        cut: 1_000_000,
         part: Part::All,
         every: 3,
         telling: 8,
@@ -154,6 +160,15 @@ fn objects(options: &Options) -> Settings {
     Settings {
         composed: options.inputs,
         part: Part::Objects,
+        ..long(options)
+    }
+}
+
+/// Dictionaries that come in pieces alone, as many as there would be inputs.
+fn pieces(options: &Options) -> Settings {
+    Settings {
+        cut: options.inputs,
+        part: Part::Pieces,
         ..long(options)
     }
 }

@@ -4,11 +4,9 @@
 
 use crate::Input;
 use crate::damage::{byte_damage, dictionary_damage};
-use crate::encode::{self, DictionaryShape, least_width};
+use crate::encode::{self, least_width};
 use crate::fixed::{SORTED, UNSORTED, WORKED_DICTIONARIES, numbered, shape};
-use crate::generate::{
-    append_bytes, child, dictionary_width, field_ids, name, names, sorted_or_not,
-};
+use crate::generate::{append_bytes, child, dictionary_of, field_ids, name, names, sorted_or_not};
 use crate::pairs::{Pair, Pairs};
 use crate::random::Random;
 use lichenhusk::LIMIT;
@@ -259,12 +257,7 @@ fn long_children(random: &mut Random) -> Input {
 }
 
 fn of_names(random: &mut Random, names: &[Vec<u8>], sorted: bool, most: usize) -> Input {
-    let shape = DictionaryShape {
-        width: dictionary_width(random, names),
-        sorted,
-        spare: random.one_in(8),
-    };
-    let mut dict = encode::dictionary(names, shape);
+    let mut dict = dictionary_of(random, names, sorted);
     if random.one_in(4) {
         append_bytes(random, &mut dict);
     }

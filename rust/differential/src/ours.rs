@@ -58,6 +58,10 @@ pub trait Reader {
         spare: &mut [u32],
         room: &mut [u8],
     ) -> Strip;
+    /// The first state of a dictionary in pieces.
+    fn begin(&self) -> Strip;
+    /// The state after a piece, which goes to the store, by the one before.
+    fn feed(&self, store: &mut [u8], piece: &[u8], state: Strip) -> Strip;
 }
 
 /// The archive itself.
@@ -136,11 +140,23 @@ impl Reader for Archive {
     ) -> Strip {
         filled(|strip| raw::write_object(dict, bytes, words, order, spare, room, strip))
     }
+
+    fn begin(&self) -> Strip {
+        filled(raw::begin)
+    }
+
+    fn feed(&self, store: &mut [u8], piece: &[u8], state: Strip) -> Strip {
+        left(state.bytes(), |strip| raw::feed(store, piece, strip))
+    }
 }
 
 /// The strip of a call. It holds other bytes before, so that each of them must be written.
 fn filled(call: impl FnOnce(&mut [u8]) -> u32) -> Strip {
-    let mut bytes = [0xEE; STRIP_BYTES];
+    left([0xEE; STRIP_BYTES], call)
+}
+
+/// What a call leaves in a strip that held some bytes before.
+fn left(mut bytes: [u8; STRIP_BYTES], call: impl FnOnce(&mut [u8]) -> u32) -> Strip {
     let code = call(&mut bytes);
     let strip = Strip::read(&bytes);
     assert_eq!(strip.code, code, "the code returned is the code written");
@@ -181,6 +197,14 @@ pub fn found(field: usize, id: usize, start: usize, end: usize) -> Strip {
         start: start as u32,
         end: end as u32,
         place: 0,
+    }
+}
+
+/// The strip of a dictionary in pieces of which more bytes are wanted.
+pub fn more(held: usize, wanted: usize) -> Strip {
+    Strip {
+        code: lichenhusk::MORE,
+        ..accepted(held, 0, wanted)
     }
 }
 

@@ -9,9 +9,12 @@
 //! and why there is none, the [`walk`](crate::walk) says. Of names to be written it says what its builder
 //! writes for them; which of them are no names, the library says. Of pairs to be written it says what its
 //! builder writes for the fields, in the order of their names; which pairs are refused, and for what, the
-//! plain writer says ([`pairs`](crate::pairs)), where the Rust refuses one of them too.
+//! plain writer says ([`pairs`](crate::pairs)), where the Rust refuses one of them too. Of a dictionary in
+//! pieces it says what it says to the bytes that came, as many as there is room for.
 
 use crate::composing;
+use crate::cuts::Cuts;
+use crate::cuttings;
 use crate::damage::damaged;
 use crate::extremes;
 use crate::fixed;
@@ -32,7 +35,7 @@ use crate::values::said_by;
 use crate::walk::Walk;
 use crate::writing::built;
 use crate::{Input, hex, objects, paths, sets, trees};
-use lichenhusk::{ABSENT, LIMIT, OK, Strip, WORDS_PER_NAME, WORDS_PER_STEP, run_of};
+use lichenhusk::{ABSENT, LIMIT, MORE, OK, Strip, WORDS_PER_NAME, WORDS_PER_STEP, run_of};
 use parquet_variant::{Variant, VariantMetadata, VariantObject, VariantPath};
 use std::collections::{BTreeMap, BTreeSet};
 use std::fmt;
@@ -41,16 +44,17 @@ use std::fmt;
 pub const SEED: u64 = 60;
 
 /// How many lines the repository keeps.
-pub const KEPT: usize = 4_200;
+pub const KEPT: usize = 4_500;
 
-/// One line in so many is a tree's, one a path's, one of names to be written, and one of pairs.
-const SHARE: usize = 14;
+/// One line in so many is a tree's, one a path's, one of names to be written, one of pairs, and one of
+/// pieces.
+const SHARE: usize = 15;
 
 /// The longest line that is taken.
 const LONGEST: usize = 130;
 
 /// The most bytes in all: the program that replays the lines has room for 352,256.
-pub const MOST_BYTES: usize = 344_000;
+pub const MOST_BYTES: usize = 352_000;
 
 /// The most names at once: a reader of the lines has room for their rows.
 const MOST_NAMES: usize = 3;
@@ -71,7 +75,7 @@ const ROUNDS: usize = 200;
 
 /// So many lines at most, chosen over all answers and shapes, in order.
 pub fn lines(seed: u64, most: usize) -> Vec<String> {
-    let mut chosen = Chosen::new(most - 4 * (most / SHARE));
+    let mut chosen = Chosen::new(most - 5 * (most / SHARE));
     for input in fixed::inputs() {
         chosen.take(&input, usize::MAX);
     }
@@ -97,9 +101,12 @@ pub fn lines(seed: u64, most: usize) -> Vec<String> {
     chosen.most += most / SHARE;
     let names = (sets::good as Good, sets::damaged as Damaged);
     chosen.take_more(&mut random, sets::fixed(), 1, names);
-    chosen.most = most;
+    chosen.most += most / SHARE;
     let pairs = (objects::good as Good, objects::damaged as Damaged);
     chosen.take_more(&mut random, objects::fixed(), 1, pairs);
+    chosen.most = most;
+    let pieces = (cuttings::good as Good, cuttings::damaged as Damaged);
+    chosen.take_more(&mut random, cuttings::fixed(), 1, pieces);
     chosen.lines.into_iter().collect()
 }
 
@@ -125,7 +132,7 @@ impl Chosen {
         self.lines.len() < self.most && self.bytes + LONGEST < MOST_BYTES
     }
 
-    /// Takes trees, paths, or names or pairs to be written, in rounds as the others.
+    /// Takes trees, paths, names or pairs to be written, or pieces, in rounds as the others.
     fn take_more(
         &mut self,
         random: &mut Random,
@@ -198,6 +205,8 @@ enum Says {
     Writes(usize, Vec<u8>),
     /// Fields that are written: how many of them there are, where their children begin, and the object.
     Lays(usize, usize, Vec<u8>),
+    /// Pieces of which so many bytes are held, and more are wanted.
+    Wants(usize),
     /// Refused, by our number.
     Refused(u32),
 }
@@ -236,6 +245,7 @@ impl fmt::Display for Says {
                 write!(to, "lays {count} {start} {} :", object.len())?;
                 object.iter().try_for_each(|byte| write!(to, " {byte}"))
             }
+            Says::Wants(held) => write!(to, "wants {held}"),
             Says::Refused(number) => write!(to, "refuses {number}"),
         }
     }
@@ -280,6 +290,9 @@ impl Answer {
         }
         if let Some(pairs) = &input.pairs {
             return pairs_class(&self.says, &input.dict, pairs);
+        }
+        if let Some(cuts) = &input.pieces {
+            return pieces_class(&self.says, &input.dict, cuts);
         }
         let (dict_bits, object_bits) = match (self.kind(), &self.says) {
             ("dictionary", _) => (WIDTH | SORTED, 0),
@@ -373,6 +386,23 @@ fn pairs_class(says: &Says, dict: &[u8], given: &Pairs) -> String {
         Says::Refused(11..20) => format!("write-object {says}"),
         _ => format!("write-object {says} {shape}"),
     }
+}
+
+/// The class of pieces: by what is answered, how many there are, whether one has no bytes, whether all have
+/// room, and by the width of a dictionary that is accepted or of which more is wanted.
+fn pieces_class(says: &Says, dict: &[u8], cuts: &Cuts) -> String {
+    let pieces: Vec<&[u8]> = cuts.pieces(dict).collect();
+    let count = pieces.len().min(4);
+    let empty = pieces.iter().any(|piece| piece.is_empty());
+    let received = pieces.concat();
+    let is_over = received.len() > cuts.room as usize;
+    let width = received.first().map(|header| header & WIDTH);
+    let (said, width) = match says {
+        Says::Refused(number) => (*number, None),
+        Says::Wants(_) => (MORE, width),
+        _ => (OK, width),
+    };
+    format!("pieces {said} {count} {empty} {is_over} {width:?}")
 }
 
 /// The width's bits of a dictionary's header.
@@ -572,6 +602,32 @@ fn object_built(metadata: &VariantMetadata, fields: &[Field]) -> Option<Vec<u8>>
     Some(composing::built(metadata, named))
 }
 
+/// The most pieces of a line, and the most bytes of the dictionary: so there is room for all lines.
+const MOST_PIECES: usize = 12;
+const MOST_CUT: usize = 24;
+
+/// What the Rust says to the bytes that came in pieces, as many as there is room for. Of no pieces there is
+/// no line.
+fn of_pieces(dict: &[u8], cuts: &Cuts) -> Vec<Answer> {
+    let pieces: Vec<&[u8]> = cuts.pieces(dict).collect();
+    if !(1..=MOST_PIECES).contains(&pieces.len()) || dict.len() > MOST_CUT {
+        return vec![];
+    }
+    let (received, room) = (pieces.concat(), cuts.room as usize);
+    let first = &received[..received.len().min(room)];
+    let says = match dictionary(first) {
+        Says::Refused(11 | 13) if received.len() > room => Says::Refused(44),
+        Says::Refused(11 | 13) => Says::Wants(first.len()),
+        says => says,
+    };
+    let pieces: Vec<String> = pieces
+        .iter()
+        .map(|piece| format!(" {}", hex(piece)))
+        .collect();
+    let case = format!("pieces {room}{}", pieces.concat());
+    vec![Answer { case, says }]
+}
+
 /// The Rust is asked about trees in which fewer values are met.
 const MOST_VISITS: usize = 10_000;
 
@@ -583,6 +639,9 @@ fn answers(input: &Input) -> Vec<Answer> {
     let dict = &input.dict;
     if let Some(pairs) = &input.pairs {
         return of_pairs(dict, pairs);
+    }
+    if let Some(cuts) = &input.pieces {
+        return of_pieces(dict, cuts);
     }
     if let Some(value) = &input.tree {
         let answer = match &input.path {

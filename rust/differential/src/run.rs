@@ -1,6 +1,7 @@
 //! A run: inputs of every kind through the comparison, within a time.
 
 use crate::compare::{self, Compared, Disagreement, Known};
+use crate::cuts::Cuts;
 use crate::damage::damaged;
 use crate::exhaustive::{
     DICTIONARY_BYTES, DICTIONARY_HEADERS, OBJECT_BYTES, OBJECT_HEADERS, all_bytes, each,
@@ -14,7 +15,7 @@ use crate::pairs::Pairs;
 use crate::random::Random;
 use crate::shrink::smallest;
 use crate::tally::{Tally, grouped};
-use crate::{Input, children, extremes, large, objects, paths, sets, shown, trees};
+use crate::{Input, children, cuttings, extremes, large, objects, paths, sets, shown, trees};
 use std::fmt;
 use std::panic::{AssertUnwindSafe, catch_unwind};
 use std::time::{Duration, Instant};
@@ -36,6 +37,8 @@ pub struct Settings {
     pub written: u64,
     /// How many times pairs to write are generated, good ones and damaged ones together.
     pub composed: u64,
+    /// How many dictionaries in pieces are generated, good ones and damaged ones together.
+    pub cut: u64,
     /// What is gone through.
     pub part: Part,
     /// The length up to which every string of bytes is tried.
@@ -61,6 +64,8 @@ pub enum Part {
     Writing,
     /// Objects that are written alone.
     Objects,
+    /// Dictionaries that come in pieces alone.
+    Pieces,
 }
 
 /// Damaged copies of each good input.
@@ -162,6 +167,8 @@ impl<R: Reader> Run<'_, R> {
                 self.larger_writing()?;
                 self.small_objects()?;
                 self.larger_objects()?;
+                self.small_pieces()?;
+                self.larger_pieces()?;
                 self.names_and_generated()
             }
             Part::Trees => {
@@ -179,6 +186,10 @@ impl<R: Reader> Run<'_, R> {
             Part::Objects => {
                 self.small_objects()?;
                 self.larger_objects()
+            }
+            Part::Pieces => {
+                self.small_pieces()?;
+                self.larger_pieces()
             }
         }
     }
@@ -293,6 +304,33 @@ impl<R: Reader> Run<'_, R> {
         })?;
         self.kind("objects to write about the limit of length", |run| {
             objects::of_length().try_for_each(|input| run.input(&input))
+        })
+    }
+
+    fn small_pieces(&mut self) -> Going {
+        self.kind(
+            "pieces: worked cases in every room, ends of widths",
+            |run| cuttings::fixed().try_for_each(|input| run.input(&input)),
+        )?;
+        self.kind("every cutting of short dictionaries", |run| {
+            cuttings::each_cutting(|input| run.input(input))
+        })?;
+        self.kind("every cutting of dictionaries of telling bytes", |run| {
+            let longest = run.settings.telling - 2;
+            (0..=longest)
+                .try_for_each(|length| cuttings::each_telling(length, |input| run.input(input)))
+        })?;
+        self.kind("pieces generated, and damaged copies", |run| {
+            run.generated(run.settings.cut, cuttings::good, cuttings::damaged)
+        })
+    }
+
+    fn larger_pieces(&mut self) -> Going {
+        self.kind("larger dictionaries in pieces, and damaged copies", |run| {
+            run.generated(run.settings.large / 10, cuttings::larger, cuttings::damaged)
+        })?;
+        self.kind("pieces about the limit of length", |run| {
+            cuttings::of_length().try_for_each(|input| run.input(&input))
         })
     }
 
@@ -565,6 +603,10 @@ fn lines_of(input: &Input) -> String {
         let some = &words[..words.len().min(SHOWN_ENDS)];
         text += &part("bytes     ", bytes);
         text += &format!("  {} words of pairs {some:?}\n", words.len());
+    }
+    if let Some(Cuts { ends, room }) = &input.pieces {
+        let some = &ends[..ends.len().min(SHOWN_ENDS)];
+        text += &format!("  {} ends of pieces {some:?}, room {room}\n", ends.len());
     }
     text
 }

@@ -12,6 +12,7 @@ use crate::reference::{is_container, rows_of};
 use crate::trees::nodes;
 use lichenhusk::WORDS_PER_PAIR;
 use std::ops::Range;
+use std::slice::from_mut;
 use std::time::{Duration, Instant};
 
 /// Of more things than these, not every run of a length is tried, see [`tries`]; and of more bytes,
@@ -38,12 +39,15 @@ const PARTS: [Part; 7] = [
     |input| Some(&mut input.dict),
 ];
 
-/// The numbers of an input that are words of their own: ends of names to write, and words of pairs.
-type Words = fn(&mut Input) -> Option<&mut Vec<u32>>;
+/// The numbers of an input that are words of their own: ends of names to write, words of pairs, ends of
+/// pieces, and the room for these.
+type Words = fn(&mut Input) -> Option<&mut [u32]>;
 
-const WORDS: [Words; 2] = [
+const WORDS: [Words; 4] = [
     |input| Some(&mut input.names.as_mut()?.ends),
     |input| Some(&mut input.pairs.as_mut()?.words),
+    |input| Some(&mut input.pieces.as_mut()?.ends),
+    |input| Some(from_mut(&mut input.pieces.as_mut()?.room)),
 ];
 
 /// Things in an input of which runs can be left out: how many there are, and the input without a
@@ -55,8 +59,8 @@ struct Things {
 
 /// Names to write with their bytes, ends of them alone, and bytes of their run; pairs to write, words of
 /// them, and bytes that are lent; fields, entries, and bytes of the object's region and of the
-/// dictionary's; children of a tree, and bytes anywhere in it.
-const THINGS: [Things; 12] = [
+/// dictionary's; children of a tree, and bytes anywhere in it; ends of pieces, and bytes of them.
+const THINGS: [Things; 14] = [
     Things {
         count: |input| Some(input.names.as_ref()?.ends.len()),
         without: |input, run| {
@@ -161,6 +165,25 @@ const THINGS: [Things; 12] = [
     Things {
         count: |input| input.tree.as_ref().map(Vec::len),
         without: |input, run| Some(with_tree(input, without_run(input.tree.as_ref()?, run))),
+    },
+    Things {
+        count: |input| Some(input.pieces.as_ref()?.ends.len()),
+        without: |input, run| {
+            let mut fewer = input.clone();
+            fewer.pieces.as_mut()?.ends.drain(run);
+            Some(fewer)
+        },
+    },
+    Things {
+        count: |input| input.pieces.as_ref().map(|_| input.dict.len()),
+        without: |input, run| {
+            let mut fewer = input.clone();
+            fewer.dict.drain(run.clone());
+            for end in &mut fewer.pieces.as_mut()?.ends {
+                count_on(end, &run);
+            }
+            Some(fewer)
+        },
     },
 ];
 
@@ -383,6 +406,7 @@ impl<F: Fn(&Input) -> bool> Search<F> {
         self.change(|input| input.path = None);
         self.change(|input| input.names = None);
         self.change(|input| input.pairs = None);
+        self.change(|input| input.pieces = None);
         self.inner();
         for things in &THINGS {
             self.fewer(things);

@@ -109,6 +109,18 @@ pub struct Tally {
     pub composed_slowly: u64,
     /// Pairs over a dictionary that is refused.
     pub composed_over_refused: u64,
+    /// Dictionaries that come in pieces, each answer by the bytes received, by the last one's number.
+    pub in_pieces: BTreeMap<u32, u64>,
+    /// How many pieces they come in.
+    pub pieces: u64,
+    /// Of these, the ones of no bytes.
+    pub pieces_of_no_bytes: u64,
+    /// The ones that come when all is settled.
+    pub pieces_after: u64,
+    /// The ones of which there is no room for all bytes, and that settle all the same.
+    pub pieces_over: u64,
+    /// States that were made up.
+    pub pieces_made_up: u64,
     /// Lookups that found what `get` yields.
     pub found: u64,
     /// Lookups that are absent where `get` yields nothing.
@@ -308,6 +320,18 @@ impl fmt::Display for Tally {
         line("  again with too little scratch", self.composed_slowly)?;
         line("  without room, 46", self.composed_without_room)?;
         line("  over a refused dictionary", self.composed_over_refused)?;
+        for (number, count) in &self.in_pieces {
+            match number {
+                0 => line("dictionaries in pieces, accepted", *count)?,
+                3 => line("dictionaries in pieces, more wanted", *count)?,
+                _ => line(&format!("dictionaries in pieces, {number}"), *count)?,
+            }
+        }
+        line("  their pieces, each answered", self.pieces)?;
+        line("  of these, of no bytes", self.pieces_of_no_bytes)?;
+        line("  when all is settled", self.pieces_after)?;
+        line("  past the room, and settled", self.pieces_over)?;
+        line("  states that were made up", self.pieces_made_up)?;
         line("lookups found", self.found)?;
         line("lookups absent", self.absent)?;
         line(

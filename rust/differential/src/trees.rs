@@ -3,10 +3,10 @@
 //! are shared or lie in one another, and damaged copies.
 
 use crate::damage::{byte_damage, dictionary_damage, number_damage};
-use crate::encode::{self, DictionaryShape, least_width, put};
+use crate::encode::{self, least_width, put};
 use crate::fixed::{SORTED, UNSORTED};
 use crate::generate::{
-    append_bytes, dictionary_width, field_ids, name, names, object_shape, primitive, short_string,
+    append_bytes, dictionary_of, field_ids, name, names, object_shape, primitive, short_string,
 };
 use crate::otherwise;
 use crate::random::Random;
@@ -275,12 +275,7 @@ pub fn good(random: &mut Random) -> Input {
     if names.len() > 300 {
         names.truncate(300);
     }
-    let shape = DictionaryShape {
-        width: dictionary_width(random, &names),
-        sorted,
-        spare: random.one_in(8),
-    };
-    let dict = encode::dictionary(&names, shape);
+    let dict = dictionary_of(random, &names, sorted);
     let levels = match random.below(16) {
         0 => random.between(LEVELS - 1, LEVELS + 1),
         1 => random.between(12, LEVELS - 1),

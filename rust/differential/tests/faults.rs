@@ -4,8 +4,10 @@
 use differential::compare::Disagreement;
 use differential::composing::Composing;
 use differential::faults::{ALL, Fault, Faulty};
+use differential::feeding::Feeding;
 use differential::given::{Given, set_of};
 use differential::miscomposing::Miscomposing;
+use differential::misfeeding::Misfeeding;
 use differential::miswriting::{Lent, Miswriting};
 use differential::otherwise::Otherwise;
 use differential::ours::{Archive, Reader};
@@ -16,7 +18,7 @@ use differential::run::{Part, Settings, disagreement, run};
 use differential::tally::Tally;
 use differential::walk::Walk;
 use differential::writing::Writing;
-use differential::{Input, LARGE, fixed, hex, large, objects, paths, sets};
+use differential::{Input, LARGE, cuttings, fixed, hex, large, objects, paths, sets};
 use lichenhusk::{LEVELS, LIMIT, OK};
 use parquet_variant::VariantMetadata;
 use std::collections::BTreeMap;
@@ -33,6 +35,7 @@ fn small() -> Settings {
         paths: 4_000,
         written: 4_000,
         composed: 4_000,
+        cut: 4_000,
         part: Part::All,
         every: 2,
         telling: 5,
@@ -50,6 +53,7 @@ fn told(fault: Fault) -> (Input, Disagreement) {
         _ if fault.is_of_paths() => Part::Paths,
         _ if fault.is_of_writing() => Part::Writing,
         _ if fault.is_of_objects() => Part::Objects,
+        _ if fault.is_of_pieces() => Part::Pieces,
         _ if asked_of_trees(fault).is_some() => Part::Trees,
         _ => Part::All,
     };
@@ -76,6 +80,7 @@ fn the_archive_passes() {
     paths_of_every_kind_are_seen(&outcome.tally);
     writing_of_every_kind_is_seen(&outcome.tally);
     objects_of_every_kind_are_seen(&outcome.tally);
+    pieces_of_every_kind_are_seen(&outcome.tally);
 }
 
 /// Objects are written, as the Rust's builder does it and otherwise, in other orders and with too little
@@ -104,6 +109,25 @@ fn objects_of_every_kind_are_seen(tally: &Tally) {
         ("over a refused dictionary", tally.composed_over_refused),
     ] {
         assert!(seen > 200, "{what}: {seen}");
+    }
+}
+
+/// Dictionaries in pieces get every number that they may, and no other, and pieces come empty, after all is
+/// settled and past the room.
+fn pieces_of_every_kind_are_seen(tally: &Tally) {
+    let numbers: Vec<u32> = tally.in_pieces.keys().copied().collect();
+    assert_eq!(numbers, [0, 3, 12, 14, 15, 16, 17, 18, 19, 44]);
+    for (number, &seen) in &tally.in_pieces {
+        assert!(seen > 100, "{number}: {seen}");
+    }
+    for (what, seen) in [
+        ("pieces", tally.pieces),
+        ("of no bytes", tally.pieces_of_no_bytes),
+        ("after", tally.pieces_after),
+        ("past the room", tally.pieces_over),
+        ("made up", tally.pieces_made_up),
+    ] {
+        assert!(seen > 1_000, "{what}: {seen}");
     }
 }
 
@@ -262,6 +286,10 @@ fn most(fault: Fault) -> usize {
         // Names of six bytes at most, an offset each, and three words.
         Fault::IdWidthOfFields | Fault::LongCountAt255 => (6 + 2 + 12) * 256 + few,
         Fault::WrittenFieldsOfTwoBytes => (6 + 3 + 12) * entries + few,
+        Fault::NoPiecesLimit | Fault::PiecesLimitOneLess | Fault::TenForNoRoom => {
+            LIMIT + 1 + 2 * few
+        }
+        Fault::HeldOfTwoBytes => (1 << 16) + few,
         // A pair has twelve bytes, and four of them are needed.
         _ if fault.is_of_objects() => 3 * few,
         // A child of seventeen bytes, or without the last of them.
@@ -285,6 +313,8 @@ fn each_fault_is_told_by_a_small_input() {
         assert_eq!(found.asked, of_writing.unwrap_or(&found.asked), "{fault:?}");
         let of_objects = asked_of_objects(fault);
         assert_eq!(found.asked, of_objects.unwrap_or(&found.asked), "{fault:?}");
+        let of_pieces = asked_of_pieces(fault);
+        assert_eq!(found.asked, of_pieces.unwrap_or(&found.asked), "{fault:?}");
         let of_paths = asked_of_paths(fault);
         assert_eq!(found.asked, of_paths.unwrap_or(&found.asked), "{fault:?}");
         let of_values = asked_of_values(fault);
@@ -330,7 +360,8 @@ fn asked_of_trees(fault: Fault) -> Option<&'static str> {
         Fault::TreeBeforeDictionary => Some("a tree over a refused dictionary"),
         Fault::KeepsMarks | Fault::KeepsMarksRefused => Some("marks after a check"),
         Fault::TrustsMarks => Some("a tree's verdict with marks"),
-        _ if fault.is_of_paths() || fault.is_of_writing() || fault.is_of_objects() => None,
+        _ if fault.is_of_paths() || fault.is_of_writing() => None,
+        _ if fault.is_of_objects() || fault.is_of_pieces() => None,
         _ if fault as usize >= Fault::AcceptsAnyTree as usize => Some("a tree's verdict"),
         _ => None,
     }
@@ -403,6 +434,105 @@ fn asked_of_objects(fault: Fault) -> Option<&'static str> {
         WritesShortObjectScratch => Some("scratch that is too little for pairs"),
         _ => fault.is_of_objects().then_some("an object that is written"),
     }
+}
+
+/// What tells a wrong answer to pieces; nothing of another fault.
+fn asked_of_pieces(fault: Fault) -> Option<&'static str> {
+    use Fault::*;
+    match fault {
+        BeginsSettled | BeginsWithoutWanted => Some("the first state"),
+        ForgetsHeld => Some("a state that was made up"),
+        ReadsWantedBack | KeepsOtherWords => Some("a state with other words"),
+        NoPiecesLimit | TakesPastStates => Some("a state past its store"),
+        BeginsAgain | ForgetsNoRoom | UnknownIsNoRoom => Some("what is settled"),
+        WritesAfterSettling | WritesPastStates | WritesAfterPiece | ClearsTheStore => {
+            Some("the store for pieces")
+        }
+        _ => fault.is_of_pieces().then_some("a piece of a dictionary"),
+    }
+}
+
+/// What tells a fault of pieces in runs from the first state.
+fn told_from_the_first(fault: Fault) -> Option<String> {
+    let reader = Faulty {
+        reader: Archive,
+        fault,
+    };
+    let asked = |input: Input| {
+        let feeding = Feeding {
+            reader: &reader,
+            dict: &input.dict,
+            cuts: input.pieces.as_ref()?,
+        };
+        let compared = feeding.from_the_first(&mut Tally::default());
+        Some(compared.err()?.asked)
+    };
+    let inputs = cuttings::fixed().chain(cuttings::of_length());
+    inputs.into_iter().find_map(asked)
+}
+
+/// States that are made up are not all that tells: a feeder that is wrong in a run is told by it. Those
+/// that are wrong only where a state comes from elsewhere are right there.
+#[test]
+fn faults_of_pieces_without_states_made_up() {
+    let right_in_runs = [
+        Fault::ReadsWantedBack,
+        Fault::UnknownIsNoRoom,
+        Fault::TakesPastStates,
+        Fault::WritesPastStates,
+        Fault::KeepsOtherWords,
+    ];
+    for fault in ALL.into_iter().filter(|fault| fault.is_of_pieces()) {
+        let told = told_from_the_first(fault);
+        assert_eq!(told.is_none(), right_in_runs.contains(&fault), "{fault:?}");
+    }
+}
+
+/// What a wrong feeder is told by, to the byte.
+#[test]
+fn pieces_that_tell() {
+    for (fault, dict, ends, room) in [
+        (Fault::CopiesToTheStart, "0100", &[1, 2][..], 2),
+        (Fault::SettlesShort, "01", &[1], 1),
+        (Fault::EmptyPieceEnds, "-", &[0], 0),
+        (Fault::FullIsNoRoom, "-", &[0], 0),
+        (Fault::MorePastRoom, "00", &[1], 0),
+        (Fault::NoRoomFirst, "0000", &[2], 1),
+        (Fault::HeaderIsEnough, "01010001", &[4], 4),
+        (Fault::WantsNoLastOffset, "0100", &[2], 2),
+    ] {
+        let (input, _) = told(fault);
+        let cuts = input.pieces.expect("pieces");
+        let told = (hex(&input.dict), &cuts.ends[..], cuts.room);
+        assert_eq!(told, (dict.to_string(), ends, room), "{fault:?}");
+    }
+}
+
+/// A feeder without a fault passes, so that it is the fault that is told of each of the others.
+#[test]
+fn the_plain_feeder_answers_what_is_due() {
+    let plain = Misfeeding {
+        reader: &Archive,
+        fault: None,
+    };
+    let mut count = 0;
+    let mut same = |input: &Input| {
+        let cuts = input.pieces.as_ref().expect("pieces");
+        let (mut ours, mut theirs) = (vec![7; cuts.room as usize], vec![7; cuts.room as usize]);
+        let (mut state, mut plain_state) = (Archive.begin(), plain.begin());
+        assert_eq!(state, plain_state);
+        for piece in cuts.pieces(&input.dict) {
+            state = Archive.feed(&mut ours, piece, state);
+            plain_state = plain.feed(&mut theirs, piece, plain_state);
+            assert_eq!((state, &ours), (plain_state, &theirs), "{input:?}");
+            count += 1;
+        }
+        Ok::<(), ()>(())
+    };
+    let small = cuttings::fixed().filter(|input| input.size() < LARGE);
+    small.for_each(|input| same(&input).unwrap_or_default());
+    cuttings::each_cutting(same).unwrap_or_default();
+    assert!(count > 500_000, "{count}");
 }
 
 /// Whether a fault of writing is one in the bytes of a dictionary.
@@ -680,7 +810,7 @@ fn every_fault_is_tried() {
             "in the order of the enum, none left out"
         );
     }
-    assert_eq!(Fault::TrustsObjectOrder as usize, ALL.len() - 1);
+    assert_eq!(Fault::NoPlaceInPieces as usize, ALL.len() - 1);
 }
 
 /// Of very many fields, the lookup of all their names is told, which stands for the listing.
@@ -814,6 +944,12 @@ fn a_panic_is_told() {
             _: &mut [u32],
             _: &mut [u8],
         ) -> lichenhusk::Strip {
+            unreachable!()
+        }
+        fn begin(&self) -> lichenhusk::Strip {
+            unreachable!()
+        }
+        fn feed(&self, _: &mut [u8], _: &[u8], _: lichenhusk::Strip) -> lichenhusk::Strip {
             unreachable!()
         }
     }

@@ -64,6 +64,11 @@ fn ours(case: &str) -> (Strip, Vec<u32>) {
             let strip = Archive.write_object(&d, &pairs, &mut [], &mut [], &mut lent);
             return (strip, lent.into_iter().map(u32::from).collect());
         }
+        ["pieces", room, ref pieces @ ..] => {
+            let mut store = vec![0; number(room) as usize];
+            let taken = |state, piece: &&str| Archive.feed(&mut store, &bytes(piece), state);
+            pieces.iter().fold(Archive.begin(), taken)
+        }
         _ => panic!("no case: {case}"),
     };
     (strip, vec![])
@@ -84,7 +89,7 @@ fn holds(case: &str, says: &str, strip: Strip, lent: &[u32]) -> bool {
     let (code, start, place) = (strip.code, strip.start, strip.place);
     let ours = [code, strip.number, strip.id, start, strip.end, place];
     match words[..] {
-        ["accepts", count, end] if ["dictionary", "tree"].iter().any(|of| case.starts_with(of)) => {
+        ["accepts", count, end] if !case.starts_with("layer") => {
             ours == [0, number(count), 0, 0, number(end), 0]
         }
         ["accepts" | "child", count, end] | ["rows", count, end, ":", ..] => {
@@ -99,6 +104,9 @@ fn holds(case: &str, says: &str, strip: Strip, lent: &[u32]) -> bool {
             ours == [0, number(field), number(id), number(start), number(end), 0]
         }
         ["reads", kind, low, high] => ours == [0, number(kind), 0, number(low), number(high), 0],
+        ["wants", held] => {
+            ours == [3, number(held), 0, 0, strip.end, 0] && strip.end > strip.number
+        }
         ["absent"] => ours == [1, 0, 0, 0, 0, 0],
         ["refuses", code, start] => ours == [number(code), 0, 0, number(start), 0, place],
         ["refuses", code] => ours == [number(code), 0, 0, 0, 0, place],
@@ -125,7 +133,7 @@ fn kind(case: &str, says: &str) -> String {
 }
 
 /// What lines there must be.
-const KINDS: [&str; 85] = [
+const KINDS: [&str; 95] = [
     "dictionary accepts",
     "dictionary refuses 11",
     "dictionary refuses 12",
@@ -211,6 +219,16 @@ const KINDS: [&str; 85] = [
     "write-object refuses 28",
     "write-object refuses 45",
     "write-object refuses 46",
+    "pieces accepts",
+    "pieces wants",
+    "pieces refuses 12",
+    "pieces refuses 14",
+    "pieces refuses 15",
+    "pieces refuses 16",
+    "pieces refuses 17",
+    "pieces refuses 18",
+    "pieces refuses 19",
+    "pieces refuses 44",
 ];
 
 #[test]

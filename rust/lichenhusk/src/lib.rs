@@ -7,12 +7,14 @@
 //! are listed: a child is handed back as bytes of the object, which can be read as a value in turn.
 //! [`check_tree`] checks a value with all that is below it, and [`path`](path()) follows names and
 //! indices into it. [`write_dictionary`] writes a dictionary of names, [`write_object`] an object over
-//! one, and an [`ObjectWriter`] both, of names and the bytes of their children.
+//! one, and an [`ObjectWriter`] both, of names and the bytes of their children. [`Pieces`] takes a
+//! dictionary in as it comes, piece by piece.
 //!
 //! Each call checks what it is lent from the start, keeps nothing, and copies nothing but what it
-//! writes. Any bytes may be lent; what is wrong with them is a [`Refusal`] with a number and a place.
-//! What a C caller must see to (no null pointer, no shared memory, alignment), a slice brings with it;
-//! [`raw`] says how. The functions called are proved; this crate around them is tested.
+//! writes; pieces are kept by the store that is lent. Any bytes may be lent; what is wrong with them is a
+//! [`Refusal`] with a number and a place. What a C caller must see to (no null pointer, no shared memory,
+//! alignment), a slice brings with it; [`raw`] says how. The functions called are proved; this crate around
+//! them is tested.
 //!
 //! ```
 //! use lichenhusk::{Message, Value};
@@ -49,6 +51,7 @@
 
 mod message;
 mod path;
+mod pieces;
 #[allow(unsafe_code)]
 pub mod raw;
 mod refusal;
@@ -60,6 +63,7 @@ mod write_object;
 
 pub use message::Message;
 pub use path::{Reached, path, path_with};
+pub use pieces::{Fed, Pieces};
 pub use refusal::Refusal;
 pub use strip::Strip;
 pub use tree::{TreeRefusal, check_tree, check_tree_with};
@@ -96,6 +100,9 @@ pub const OK: u32 = 0;
 
 /// The code of a name that no field has, and of an index past a list.
 pub const ABSENT: u32 = 1;
+
+/// The code of a dictionary in pieces of which more bytes are wanted.
+pub const MORE: u32 = 3;
 
 /// An accepted dictionary.
 #[derive(Clone, Copy, Debug, PartialEq, Eq, Hash)]
@@ -159,11 +166,7 @@ pub struct Field<'object> {
 /// assert_eq!(lichenhusk::dictionary(&two[..12]), Err(Refusal::DictionaryShort));
 /// ```
 pub fn dictionary(dict: &[u8]) -> Result<Dictionary, Refusal> {
-    let strip = Strip::of(|strip| raw::dictionary(dict, strip)).accepted()?;
-    Ok(Dictionary {
-        entries: strip.number as usize,
-        end: strip.end as usize,
-    })
+    dictionary_by(Strip::of(|strip| raw::dictionary(dict, strip)))
 }
 
 /// Checks a dictionary and finds the name of an entry, counted from 0. A name is UTF-8.
@@ -455,6 +458,15 @@ fn found_of([code, field, id, start, end]: [u32; WORDS_PER_NAME]) -> Option<Foun
         id,
         start: start as usize,
         end: end as usize,
+    })
+}
+
+/// The dictionary that a strip is of, or its refusal.
+fn dictionary_by(strip: Strip) -> Result<Dictionary, Refusal> {
+    let strip = strip.accepted()?;
+    Ok(Dictionary {
+        entries: strip.number as usize,
+        end: strip.end as usize,
     })
 }
 

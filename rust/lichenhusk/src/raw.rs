@@ -140,6 +140,17 @@ unsafe extern "C" {
         strip_len: usize,
     ) -> u32;
 
+    fn lichenhusk_begin(strip: *mut u8, strip_len: usize) -> u32;
+
+    fn lichenhusk_feed(
+        store: *mut u8,
+        store_len: usize,
+        piece: *const u8,
+        piece_len: usize,
+        strip: *mut u8,
+        strip_len: usize,
+    ) -> u32;
+
     fn lichenhusk_empty(room: *mut u8, room_len: usize) -> u32;
 }
 
@@ -349,6 +360,30 @@ pub fn write_object(
             spare.len(),
             room.as_mut_ptr(),
             room.len(),
+            strip.as_mut_ptr(),
+            strip.len(),
+        )
+    }
+}
+
+/// Begins a dictionary that comes in pieces; the strip is its first state: 3, of no bytes held, and one is
+/// wanted.
+pub fn begin(strip: &mut [u8]) -> u32 {
+    // SAFETY: as the head of this module says.
+    unsafe { lichenhusk_begin(strip.as_mut_ptr(), strip.len()) }
+}
+
+/// Takes a piece of a dictionary into the store; the strip is the state before, and afterwards the one
+/// after it. Where more is wanted, it holds how many bytes the store has and, as the end, how many are
+/// wanted.
+pub fn feed(store: &mut [u8], piece: &[u8], strip: &mut [u8]) -> u32 {
+    // SAFETY: as the head of this module says.
+    unsafe {
+        lichenhusk_feed(
+            store.as_mut_ptr(),
+            store.len(),
+            piece.as_ptr(),
+            piece.len(),
             strip.as_mut_ptr(),
             strip.len(),
         )

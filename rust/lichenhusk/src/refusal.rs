@@ -15,7 +15,8 @@ use std::fmt;
 /// the dictionary's, and then the value is checked step by step. Of a dictionary that is written, 45 of
 /// all names comes first, then 10, and 46 last. Of an object that is written, each of 25, 26, 45 and 28
 /// is looked for in all pairs, in this order, after the dictionary; then come 20 and 46. The field, or
-/// the name, of these four is the pair, in the order in which they are given.
+/// the name, of these four is the pair, in the order in which they are given. Of a dictionary in pieces,
+/// 44 stands for 11 and 13 where there is no room for more, and 10 is never given.
 ///
 /// ```
 /// let refusal = lichenhusk::dictionary(&[1, 1, 0, 1, 0xFF]).unwrap_err();
@@ -116,6 +117,9 @@ pub enum Refusal {
         /// The first such field.
         field: u32,
     },
+    /// 44: of a dictionary in pieces, more bytes have come than there is room for, and they settle nothing;
+    /// or its state counts more bytes than its store has room for.
+    PiecesNoRoom,
     /// 45: of many names, the end of one falls below where it begins or passes the run of names; or,
     /// of names that are to be written, one is not UTF-8. Of an object to be written, the end of a pair's
     /// child is below its start or passes the bytes that are lent.
@@ -206,6 +210,7 @@ impl Refusal {
             41 => WordsTooFew,
             42 => RoomTooSmall,
             43 => ChildLength { field: place },
+            44 => PiecesNoRoom,
             45 => NamesEnd { name: place },
             46 => WriteNoRoom,
             50 => ValueShort,
@@ -266,6 +271,7 @@ impl Refusal {
             WordsTooFew => 41,
             RoomTooSmall => 42,
             ChildLength { .. } => 43,
+            PiecesNoRoom => 44,
             NamesEnd { .. } => 45,
             WriteNoRoom => 46,
             ValueShort => 50,
@@ -373,6 +379,10 @@ impl fmt::Display for Refusal {
             ChildLength { field } => write!(
                 to,
                 "the child of the object's field {field} is of an unknown primitive type or goes on past the object's end"
+            ),
+            PiecesNoRoom => write!(
+                to,
+                "more bytes of the dictionary have come than there is room for, and they settle nothing"
             ),
             NamesEnd { name } => write!(
                 to,

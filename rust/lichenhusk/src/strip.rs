@@ -14,10 +14,10 @@ use crate::{ABSENT, OK, Refusal, STRIP_BYTES, WORDS_PER_NAME};
 /// ```
 #[derive(Clone, Copy, Debug, PartialEq, Eq, Hash)]
 pub struct Strip {
-    /// What was answered: 0, 1 or the number of a refusal.
+    /// What was answered: 0, 1, 3 or the number of a refusal.
     pub code: u32,
-    /// An entry count, a field count, a field, an index or a value's kind, by the function that was
-    /// asked.
+    /// An entry count, a field count, a field, an index, a value's kind or, where more is wanted, how many
+    /// bytes are held, by the function that was asked.
     pub number: u32,
     /// The dictionary's entry that is the name of a field that was found.
     pub id: u32,
@@ -25,7 +25,7 @@ pub struct Strip {
     /// that is refused, where the value starts that it is for.
     pub start: u32,
     /// Where it ends; of such a value, the high half; of a tree, how long the value is; of a dictionary
-    /// or an object that was written, how long that is.
+    /// or an object that was written, how long that is; where more is wanted, how many bytes are.
     pub end: u32,
     /// The place of a refusal.
     pub place: u32,
@@ -50,6 +50,30 @@ impl Strip {
             end: word(4),
             place: word(5),
         }
+    }
+
+    /// The bytes of a strip that holds the words: the state, say, of a dictionary in pieces.
+    ///
+    /// ```
+    /// use lichenhusk::{Strip, raw};
+    ///
+    /// let mut bytes = [0; lichenhusk::STRIP_BYTES];
+    /// raw::begin(&mut bytes);
+    /// assert_eq!(Strip::read(&bytes).bytes(), bytes);
+    /// ```
+    pub fn bytes(self) -> [u8; STRIP_BYTES] {
+        let Strip {
+            code,
+            number,
+            id,
+            start,
+            end,
+            place,
+        } = self;
+        let words = [code, number, id, start, end, place].map(u32::to_le_bytes);
+        let mut bytes = [0; STRIP_BYTES];
+        bytes.copy_from_slice(words.as_flattened());
+        bytes
     }
 
     /// The 64 bits of a value that is a number: a double's as they are, a float's in the low half, a

@@ -1,7 +1,7 @@
 //! The C header says what this crate says: the same numbers, and an example that runs.
 
 use lichenhusk::{
-    ABSENT, Kind, LEVELS, LIMIT, OK, OWN_MARKS, Refusal, STRIP_BYTES, WORDS_PER_FIELD,
+    ABSENT, Kind, LEVELS, LIMIT, MORE, OK, OWN_MARKS, Refusal, STRIP_BYTES, WORDS_PER_FIELD,
     WORDS_PER_NAME, WORDS_PER_PAIR, WORDS_PER_STEP,
 };
 use std::collections::BTreeMap;
@@ -49,6 +49,7 @@ fn every_number_is_there() {
     let mut known = BTreeMap::from([
         ("LICHENHUSK_OK".to_string(), OK),
         ("LICHENHUSK_ABSENT".to_string(), ABSENT),
+        ("LICHENHUSK_MORE".to_string(), MORE),
         ("LICHENHUSK_LIMIT".to_string(), LIMIT as u32),
         ("LICHENHUSK_STRIP_BYTES".to_string(), STRIP_BYTES as u32),
         (
@@ -331,6 +332,73 @@ fn the_example_of_writing_runs() {
 fn the_example_of_writing_an_object_runs() {
     let said = "With the example's dictionary, this prints \"2";
     the_piece_prints("object", said, "2 fields, 10 bytes");
+}
+
+#[test]
+fn the_example_of_pieces_runs() {
+    let said = "This takes the example's dictionary in, and prints";
+    the_piece_prints("taken_in", said, "1 2 5 13 then 2 names");
+}
+
+/// A dictionary in three pieces, then one that comes after it; a store that is too short by a byte; and
+/// strips that are no state: one that was not begun, and one that counts past its store.
+const PIECES: &str = r#"
+#include <stdio.h>
+#include "lichenhusk.h"
+
+static const uint8_t dict[] = {0x11, 2, 0, 4, 8, 'f', 'l', 'o', 'w', 'r', 'o', 'l', 'l'};
+static uint8_t strip[LICHENHUSK_STRIP_BYTES];
+static uint8_t store[14];
+
+static void feed(size_t bytes, size_t from, size_t to)
+{
+    size_t k;
+
+    printf("%u:", (unsigned) lichenhusk_feed(store, bytes, dict + from, to - from,
+                                             strip, sizeof strip));
+    printf(" %u %u ", (unsigned) lichenhusk_word(strip, LICHENHUSK_NUMBER),
+           (unsigned) lichenhusk_word(strip, LICHENHUSK_END));
+    for (k = 0; k < sizeof store; k++)
+        printf("%02X", (unsigned) store[k]);
+    printf("\n");
+}
+
+int main(void)
+{
+    feed(sizeof store, 0, 13);
+    if (lichenhusk_begin(strip, sizeof strip) != LICHENHUSK_MORE)
+        return 1;
+    feed(sizeof store, 0, 5);
+    feed(sizeof store, 5, 5);
+    feed(sizeof store, 5, 13);
+    feed(sizeof store, 0, 13);
+    if (lichenhusk_begin(strip, sizeof strip) != LICHENHUSK_MORE)
+        return 2;
+    feed(12, 0, 12);
+    feed(12, 12, 13);
+    if (lichenhusk_begin(strip, sizeof strip) != LICHENHUSK_MORE)
+        return 3;
+    strip[4 * LICHENHUSK_NUMBER] = 13;
+    feed(12, 0, 13);
+    return lichenhusk_feed(store, 0, dict, 0, strip, 23) != LICHENHUSK_STRIP_TOO_SHORT;
+}
+"#;
+
+#[test]
+fn pieces_from_c() {
+    let (none, header) = ("00".repeat(14), format!("1102000408{}", "00".repeat(9)));
+    let whole = "1102000408666C6F77726F6C6C00";
+    let lines = [
+        format!("0: 0 0 {none}"),
+        format!("3: 5 13 {header}"),
+        format!("3: 5 13 {header}"),
+        format!("0: 2 13 {whole}"),
+        format!("0: 2 13 {whole}"),
+        format!("3: 12 13 {whole}"),
+        format!("44: 0 0 {whole}"),
+        format!("44: 0 0 {whole}\n"),
+    ];
+    assert_eq!(printed("pieces", PIECES), lines.join("\n"));
 }
 
 /// Names written with scratch and without, then a name that is no text, and too little room, which both

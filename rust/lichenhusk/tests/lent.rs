@@ -18,7 +18,7 @@ const CHILD_UNKNOWN: &str = "02 02 00 01 00 01 02 00 FC";
 type Call = (&'static str, fn(&mut [u8]) -> u32);
 
 /// Each call that fills a strip, on bytes that are accepted.
-fn calls() -> [Call; 11] {
+fn calls() -> [Call; 13] {
     [
         ("lookup", |strip| {
             raw::lookup(&hex(D), &hex(P), b"roll", strip)
@@ -49,11 +49,16 @@ fn calls() -> [Call; 11] {
             let pairs = [1, 0, 1, 0, 0, 1];
             raw::write_object(&hex(D), &[4], &pairs, order, spare, room, strip)
         }),
+        ("begin", |strip| raw::begin(strip)),
+        ("feed", |strip| {
+            raw::begin(strip);
+            raw::feed(&mut [7; 13], &hex(D), strip)
+        }),
     ]
 }
 
 /// Each call that fills a strip, on bytes that are refused.
-fn refused_calls() -> [Call; 11] {
+fn refused_calls() -> [Call; 12] {
     [
         ("lookup", |strip| raw::lookup(&[2], &hex(P), b"roll", strip)),
         ("dictionary", |strip| raw::dictionary(&[2], strip)),
@@ -76,6 +81,10 @@ fn refused_calls() -> [Call; 11] {
         ("write_object", |strip| {
             let (order, spare, room) = (&mut [7; 1], &mut [7; 1], &mut [7; 14]);
             raw::write_object(&hex(D), &[4], &[2, 0, 1], order, spare, room, strip)
+        }),
+        ("feed", |strip| {
+            raw::begin(strip);
+            raw::feed(&mut [7; 13], &[2], strip)
         }),
     ]
 }
@@ -152,11 +161,13 @@ fn every_word_of_each_answer() {
         [0, 1, 1, 7, 10, 0],
         [0, 2, 0, 0, 13, 0],
         [0, 2, 0, 7, 9, 0],
+        [3, 0, 0, 0, 1, 0],
+        [0, 2, 0, 0, 13, 0],
     ];
     for ((name, call), answer) in calls().into_iter().zip(answers) {
         assert_eq!(words_of(call), answer, "{name}");
     }
-    let numbers = [12, 12, 12, 12, 12, 12, 51, 12, 12, 45, 25];
+    let numbers = [12, 12, 12, 12, 12, 12, 51, 12, 12, 45, 25, 12];
     for ((name, call), number) in refused_calls().into_iter().zip(numbers) {
         assert_eq!(words_of(call), [number, 0, 0, 0, 0, 0], "{name}");
     }
@@ -286,6 +297,9 @@ fn empty_slices() {
     assert_eq!(no_room, 46);
     assert_eq!(raw::dictionary(&[], &mut []), 40);
     assert_eq!(raw::value(&[], &mut []), 40);
+    assert_eq!(raw::begin(&mut strip), 3);
+    assert_eq!(raw::feed(&mut [], &[], &mut strip), 3);
+    assert_eq!(raw::feed(&mut [], &[], &mut []), 40);
     assert_eq!(raw::empty(&mut []), 42);
 }
 

@@ -8,5 +8,5 @@ of_asked_spec =
     tie.close
     (tie.spec
     (λ c. search rules) (λ c κs. search rules) (λ c. search rules) (λ c κs. search rules)
-    (λ c. rw c.before.before.a.given.1 c.of-path-refusal.ensures)
-    (λ c. rw c.before.before.a2.given.1 c.of-stride.ensures))
+    (λ c. rw c.in-BadPath.is c.of_path_refusal.ensures)
+    (λ c. rw c.in-Walked.is c.of_stride.ensures))

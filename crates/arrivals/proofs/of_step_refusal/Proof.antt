@@ -8,6 +8,6 @@ of_step_refusal_spec =
     tie.close
     (tie.spec
     (λ c. search rules) (λ c κs. search rules) (λ c. search rules) (λ c κs. search rules) (λ c. search rules) (λ c κs. search rules)
-    (λ c. rw c.before.before.r.given.1 c.of-object-refusal.ensures)
-    (λ c. rw c.before.before.r2.given.1 c.of-list-refusal.ensures)
-    (λ c. rw c.before.before.r3.given.1 c.refusal.ensures))
+    (λ c. rw c.in-Layer.is c.of_object_refusal.ensures)
+    (λ c. rw c.in-List.is c.of_list_refusal.ensures)
+    (λ c. rw c.in-WrongKind.is c.refusal.ensures))

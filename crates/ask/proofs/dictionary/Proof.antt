@@ -14,6 +14,6 @@ dictionary_spec =
     tie.close
     (tie.spec
     (λ c. search rules) (λ c κs. search rules) (λ c. search rules) (λ c κs. search rules)
-    (λ c. let a = c.before.before.before.before.before.before.args in
+    (λ c. let a = c.args in
     let said = dictionary_said a.dict.now in
-    c.read.ensures ∙ carried dictionary_shape (verdict a.dict.now) c.before.before.before.lichenhusk-dictionary.ensures (omega arith) said.0))  -- returns
+    c.read.ensures ∙ carried dictionary_shape (verdict a.dict.now) c.lichenhusk_dictionary.ensures (omega arith) said.0))  -- returns

@@ -14,6 +14,6 @@ layer_spec =
     tie.close
     (tie.spec
     (λ c. search rules) (λ c κs. search rules) (λ c. search rules) (λ c κs. search rules)
-    (λ c. let a = c.before.before.before.before.before.before.before.args in
+    (λ c. let a = c.args in
     let said = layer_said a.dict.now a.object.now in
-    c.read.ensures ∙ carried layer_shape (verdict a.dict.now a.object.now) c.before.before.before.lichenhusk-layer.ensures (omega arith) said.0))  -- returns
+    c.read.ensures ∙ carried layer_shape (verdict a.dict.now a.object.now) c.lichenhusk_layer.ensures (omega arith) said.0))  -- returns

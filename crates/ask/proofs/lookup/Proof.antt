@@ -14,6 +14,6 @@ lookup_spec =
     tie.close
     (tie.spec
     (λ c. search rules) (λ c κs. search rules) (λ c. search rules) (λ c κs. search rules)
-    (λ c. let a = c.before.before.before.before.before.before.before.before.args in
+    (λ c. let a = c.args in
     let said = lookup_said a.dict.now a.object.now a.name.now in
-    c.read.ensures ∙ carried lookup_shape (lookup a.dict.now a.object.now a.name.now) c.before.before.before.lichenhusk-lookup.ensures (omega arith) said.0))  -- returns
+    c.read.ensures ∙ carried lookup_shape (lookup a.dict.now a.object.now a.name.now) c.lichenhusk_lookup.ensures (omega arith) said.0))  -- returns

@@ -14,6 +14,6 @@ name_spec =
     tie.close
     (tie.spec
     (λ c. search rules) (λ c κs. search rules) (λ c. search rules) (λ c κs. search rules)
-    (λ c. let a = c.before.before.before.before.before.before.args in
+    (λ c. let a = c.args in
     let said = name_said a.dict.now a.entry in
-    c.read.ensures ∙ carried name_shape (name_at a.dict.now a.entry) c.before.before.before.lichenhusk-name.ensures (omega arith) said.0))  -- returns
+    c.read.ensures ∙ carried name_shape (name_at a.dict.now a.entry) c.lichenhusk_name.ensures (omega arith) said.0))  -- returns

@@ -9,10 +9,10 @@ read_spec =
     (tie.spec
     (λ c κs. search rules) (λ c κs. search rules) (λ c κs. search rules) (λ c κs. search rules) (λ c κs. search rules) (λ c κs. search rules)
     (λ c. rw (
-      c.before.before.before.before.before.unpack-u32.ensures.is,
-      c.before.before.before.before.unpack-u322.ensures.is,
-      c.before.before.before.unpack-u323.ensures.is,
-      c.before.before.unpack-u324.ensures.is,
-      c.before.unpack-u325.ensures.is,
-      c.unpack-u326.ensures.is,
+      c.unpack_u32.ensures.is,
+      c.unpack_u32-2.ensures.is,
+      c.unpack_u32-3.ensures.is,
+      c.unpack_u32-4.ensures.is,
+      c.unpack_u32-5.ensures.is,
+      c.unpack_u32-6.ensures.is,
     )))  -- returns

@@ -14,7 +14,7 @@ tree_spec =
     tie.close
     (tie.spec
     (λ c. search rules) (λ c. search rules) (λ c κs. search rules) (λ c. search rules) (λ c κs. search rules)
-    (λ c. let a = c.before.before.before.before.before.before.before.before.before.args in
+    (λ c. let a = c.args in
     let said = tree_said a.dict.now a.value.now in
-    let told = c.before.before.before.before.lichenhusk-tree.ensures in
+    let told = c.lichenhusk_tree.ensures in
     c.read.ensures ∙ carried tree_shape (verdict a.dict.now a.value.now) told.strip_left (omega arith) said.0))  -- returns

@@ -15,7 +15,7 @@ value_spec =
     tie.close
     (tie.spec
     (λ c. search rules) (λ c κs. search rules) (λ c. search rules) (λ c κs. search rules)
-    (λ c. let a = c.before.before.before.before.before.before.args in
-    let known = c.before.before.before.before.before.shared-slice-known.given in
+    (λ c. let a = c.args in
+    let known = c.shared_slice_known-1.given in
     let said = value_said a.value.now (λ k. omega (arith, known k)) in
-    c.read.ensures ∙ carried value_shape (value_numbers (reading a.value.now)) c.before.before.before.lichenhusk-value.ensures (omega arith) said.0))  -- returns
+    c.read.ensures ∙ carried value_shape (value_numbers (reading a.value.now)) c.lichenhusk_value.ensures (omega arith) said.0))  -- returns

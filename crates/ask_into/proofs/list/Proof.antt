@@ -16,8 +16,8 @@ list_spec =
     tie.close
     (tie.spec
     (λ c. search rules) (λ c κs. search rules) (λ c. search rules) (λ c κs. search rules) (λ c. search rules)
-    (λ c. let a = c.before.before.before.before.before.before.before.before.before.before.before.args in
-    let told = c.before.before.before.before.before.lichenhusk-list.ensures in
+    (λ c. let a = c.args in
+    let told = c.lichenhusk_list.ensures in
     let said = list_said a.dict.now a.object.now a.words.now in
     let six = carried layer_shape (listed a.dict.now a.object.now a.words.now) told.strip_left (omega arith) said.0 in
     (c.read.ensures ∙ six, told.words_left)))  -- returns

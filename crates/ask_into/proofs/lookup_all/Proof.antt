@@ -16,8 +16,8 @@ lookup_all_spec =
     tie.close
     (tie.spec
     (λ c. search rules) (λ c κs. search rules) (λ c. search rules) (λ c κs. search rules) (λ c. search rules)
-    (λ c. let a = c.before.before.before.before.before.before.before.before.before.before.before.before.before.args in
-    let told = c.before.before.before.before.before.lichenhusk-lookup-all.ensures in (
+    (λ c. let a = c.args in
+    let told = c.lichenhusk_lookup_all.ensures in (
       λ few. let fits = (all_said a.dict.now a.object.now a.names.now a.ends.now a.words.now few).0 in
           c.read.ensures ∙ carried layer_shape (lookups a.dict.now a.object.now a.names.now a.ends.now a.words.now) told.strip_left (omega arith) fits,
       told.words_left,

@@ -16,11 +16,11 @@ path_spec =
     tie.close
     (tie.spec
     (λ c. search rules) (λ c κs. search rules) (λ c. search rules) (λ c κs. search rules) (λ c. search rules) (λ c. search rules)
-    (λ c. let call = c.before.before.before.before.before.before.before in
-    let a = call.before.before.before.before.before.before.before.before.before.args in
-    let told = call.lichenhusk-path.ensures in
+    (λ c. let call = c in
+    let a = call.args in
+    let told = call.lichenhusk_path.ensures in
     let answer = by_path a.dict.now a.value.now a.path.now a.names.now a.words.now in (
       λ short few. let fits = (path_said a.dict.now a.value.now a.path.now a.names.now a.words.now short few).0 in
           c.read.ensures ∙ carried lookup_shape answer told.strip_left (omega arith) fits,
-      (told.names_stay, told.words_left),
+      (told.names_left, told.words_left),
     )))  -- returns

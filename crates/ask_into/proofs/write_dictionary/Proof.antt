@@ -17,9 +17,9 @@ write_dictionary_spec =
     tie.close
     (tie.spec
     (λ c. search rules) (λ c κs. search rules) (λ c. search rules) (λ c κs. search rules) (λ c. search rules) (λ c. search rules) (λ c. search rules)
-    (λ c. let call = c.before.before.before.before.before.before.before.before.before in
-    let a = call.before.before.before.before.before.before.before.before.before.before.args in
-    let told = call.lichenhusk-write-dictionary.ensures in (
+    (λ c. let call = c in
+    let a = call.args in
+    let told = call.lichenhusk_write_dictionary.ensures in (
       λ few. let so = write_exactly a.run.now a.ends.now a.room.now few _ _ _ _ told (omega arith) in
           by_answer a.run.now a.ends.now a.room.now (λ x. numbers_of c.read.result ≡ words_of dictionary_shape x)
           (λ n b w. c.read.ensures ∙ (so _).1 (written w))

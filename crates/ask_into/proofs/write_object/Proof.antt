@@ -17,9 +17,9 @@ write_object_spec =
     tie.close
     (tie.spec
     (λ c. search rules) (λ c κs. search rules) (λ c. search rules) (λ c κs. search rules) (λ c. search rules) (λ c. search rules) (λ c. search rules)
-    (λ c. let call = c.before.before.before.before.before.before.before.before.before in
-    let a = call.before.before.before.before.before.before.before.before.before.before.before.args in
-    let told = call.lichenhusk-write-object.ensures in (
+    (λ c. let call = c in
+    let a = call.args in
+    let told = call.lichenhusk_write_object.ensures in (
       λ few. let so = write_object_exactly a.dict.now a.bytes.now a.pairs.now a.room.now few _ _ _ _ told (omega arith) in
           by_answer a.dict.now a.bytes.now a.pairs.now a.room.now (λ x. numbers_of c.read.result ≡ words_of layer_shape x)
           (λ n v b w. c.read.ensures ∙ (so _).1 (written w))

@@ -1,5 +1,5 @@
 -- `bits::of_truth` meets its contract. Assumes nothing.
-use Rattle.rules.proofs.Prelude.{needs}
+use Rattle.rules.proofs.Prelude.{rules}
 use Rattle.bits.proofs.of_truth.Statement.{statement}
 use Rattle.bits.proofs.of_truth.Tie as tie
 
@@ -7,7 +7,7 @@ pub of_truth_spec : {M : Type 1} → statement M
 of_truth_spec =
     tie.close
     (tie.spec
-    (λ c κs. search needs)  -- answer-requires
-    (λ c. rw c.before.if1.true c.answer.ensures)  -- returns
-    (λ c κs. search needs)  -- answer-requires-2
-    (λ c. rw c.before.if1.false c.answer2.ensures))  -- returns-2
+    (λ c κs. search rules)  -- answer-requires
+    (λ c. rw c.if-b.true c.answer.ensures)  -- returns
+    (λ c κs. search rules)  -- answer-requires-2
+    (λ c. rw c.if-b.false c.answer-2.ensures))  -- returns-2

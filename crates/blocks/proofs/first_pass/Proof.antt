@@ -12,13 +12,13 @@ pub first_pass_spec : {M : Type 1} → statement M
 first_pass_spec =
     tie.close
     (tie.spec
-    (λ c. λ e. let k = c.before.before in rights_start k.args.s.now k.args.top k.requires.1 c.if1.true)  -- returns
+    (λ c. λ e. let k = c in rights_start k.args.s.now k.args.top k.requires.1 c.if-top-lt128.true)  -- returns
     (λ c. search rules) (λ c κs. search rules) (λ c. search rules) (λ c. search rules) (λ c κs. search rules) (λ c. search rules) (λ c. search rules)
     (λ c. search rules) (λ c κs. search rules)
     (λ c. λ e.
-    let two = c.before.before.before.before in
-    let one = two.before.before.before in
-    let u = neither (one.wrong.result || two.wrong2.result) c.wrong3.result (not-true _ e) in
-    let v = neither one.wrong.result two.wrong2.result u.0 in
-    rights_three one.before.before.before.before.args.s.now (sym one.wrong.ensures ∙ v.0) (sym two.wrong2.ensures ∙ v.1)
-    (sym c.wrong3.ensures ∙ u.1)))  -- returns-2
+    let two = c in
+    let one = two in
+    let u = neither (one.wrong.result || two.wrong-2.result) c.wrong-3.result (not-true _ e) in
+    let v = neither one.wrong.result two.wrong-2.result u.0 in
+    rights_three one.args.s.now (sym one.wrong.ensures ∙ v.0) (sym two.wrong-2.ensures ∙ v.1)
+    (sym c.wrong-3.ensures ∙ u.1)))  -- returns-2

@@ -1,4 +1,5 @@
 -- `blocks::passes` meets its contract: plain bytes are right, and others where none is wrong. Assumes nothing.
+use native.Mathlib.Omega.{arith}
 use borrow.Author.Rules.{rules}
 use borrow.Author.Tests.{not-true}
 use Rattle.blocks.proofs.Local.{rights_plain}
@@ -9,7 +10,7 @@ pub passes_spec : {M : Type 1} → statement M
 passes_spec =
     tie.close
     (tie.spec
-    (λ c. λ e. let k = c.before.before in let a = k.args in
-    rights_plain a.s.now a.from a.count a.most k.requires.1 c.if1.true)  -- returns
+    (λ c. λ e. let k = c in let a = k.args in
+    rights_plain a.s.now a.from a.count a.most k.requires.1 (omega arith))  -- returns
     (λ c κs. search rules)
-    (λ c. λ e. c.wrongs.ensures (not-true c.wrongs.result e)))  -- returns-2
+    (λ c. λ e. c.wrongs-any.ensures (not-true c.wrongs-any.result e)))  -- returns-2

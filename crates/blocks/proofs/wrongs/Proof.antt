@@ -10,10 +10,10 @@ use Rattle.blocks.proofs.Local.{right_behind}
 use Rattle.blocks.proofs.wrongs.Statement.{statement}
 use Rattle.blocks.proofs.wrongs.Tie as tie
 
-abbrev invariant_loop : tie.invariant-loop
+abbrev invariant_loop : tie.invariant-loop-k
 invariant_loop s from count any₀ k₀ any k = (k ≤ count) × (any ≡ false → Rights s (from + 3) (from + 3 + k))
 
-abbrev decreases_loop : tie.decreases-loop
+abbrev decreases_loop : tie.decreases-loop-k
 decreases_loop s from count any₀ k₀ any k = count - k
 
 pub wrongs_spec : {M : Type 1} → statement M
@@ -25,13 +25,13 @@ wrongs_spec =
     (λ c. (omega arith, λ e k p q. absurd (omega arith)))  -- loop-holds
     (λ c. omega arith) (λ c. omega arith) (λ c. omega arith) (λ c. omega arith) (λ c. omega arith) (λ c. omega arith) (λ c. omega arith) (λ c. omega arith)
     (λ c κs. tt) (λ c. omega arith) (λ c. omega arith)
-    (λ c. let h = c.before.before.before.before.before.before in let a = h.before.before.args in let s = a.s.now in let k = h.loop.k in
+    (λ c. let h = c in let a = h.args in let s = a.s.now in let k = h.loop-k.k in
     let x : a.from + k + 3 ≡ a.from + 3 + k = omega arith in
     let y : a.from + 3 + k + 1 ≡ a.from + 3 + (k + 1) = omega arith in (
       omega arith,
       λ e.
-          let u = neither h.loop.any c.wrong.result e in
-          let r = right_behind s (a.from + k) (sym c.wrong.ensures ∙ u.1) in
-          rw y at (join_one (RightAt s) (a.from + 3) (a.from + 3 + k) (h.loop.invariant.1 u.0) (rw x at r)),
+          let u = neither h.loop-k.any c.wrong-any.result e in
+          let r = right_behind s (a.from + k) (sym c.wrong-any.ensures ∙ u.1) in
+          rw y at (join_one (RightAt s) (a.from + 3) (a.from + 3 + k) (h.loop-k.invariant.1 u.0) (rw x at r)),
     ))  -- loop-again
-    (λ c. let l = c.before.loop in let e : l.k ≡ c.before.before.before.args.count = omega arith in rw e at l.invariant.1))  -- returns
+    (λ c. let l = c.loop-k in let e : l.k ≡ c.args.count = omega arith in rw e at l.invariant.1))  -- returns

@@ -13,4 +13,4 @@ half_spec =
     (λ c. search rules) (λ c. search rules) (λ c κs. search rules) (λ c. search rules) (λ c. search rules)
     (λ c. search rules) (λ c. search rules) (λ c κs. search rules) (λ c. search rules) (λ c. search rules)
     (λ c. search rules) (λ c. search rules) (λ c κs. search rules) (λ c. search rules)
-    (λ c. let a = c.before.before.before.before.before.before.before.before.before.args in (omega (arith, be_four a.s.now a.at), omega arith)))  -- returns
+    (λ c. let a = c.args in (omega (arith, be_four a.s.now a.at), omega arith)))  -- returns

@@ -10,4 +10,4 @@ word_spec =
     tie.close
     (tie.spec
     (λ c κs. search rules) (λ c. search rules) (λ c κs. search rules) (λ c. search rules) (λ c. search rules)
-    (λ c. let a = c.before.before.before.args in omega (arith, be_eight a.s.now a.at)))  -- returns
+    (λ c. let a = c.args in omega (arith, be_eight a.s.now a.at)))  -- returns

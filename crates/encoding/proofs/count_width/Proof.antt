@@ -9,5 +9,5 @@ unfolding count_width
 count_width_spec =
     tie.close
     (tie.spec
-    (λ c. rw (eq-eqb _ _ c.if1.true))  -- returns
-    (λ c. rw (ne_eqb _ _ c.if1.false)))  -- returns-2
+    (λ c. rw (eq-eqb _ _ c.if-bit-eq1.true))  -- returns
+    (λ c. rw (ne_eqb _ _ c.if-bit-eq1.false)))  -- returns-2

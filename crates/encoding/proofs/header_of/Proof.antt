@@ -1,5 +1,5 @@
 -- `encoding::header_of` meets its contract: an arm a basic type. Assumes nothing.
-use Rattle.rules.proofs.Prelude.{◌≡◌, ◌∙◌, ap, ℕ, arith, needs}
+use Rattle.rules.proofs.Prelude.{◌≡◌, ◌∙◌, ap, ℕ, arith, rules}
 use Rattle.width.specs.Promises.{WidePromise}
 use Rattle.encoding.specs.declared.Header.{Header}
 use Rattle.encoding.specs.declared.Header.TheVariants as header
@@ -17,8 +17,8 @@ pub header_of_spec : {M : Type 1} → statement M
 header_of_spec =
     tie.close
     (tie.spec
-    (λ c κs. search needs) (λ c κs. search needs) (λ c κs. search needs)
-    (λ c. told _ _ c.before.wide.ensures (is_primitive _ (omega arith)))  -- returns
-    (λ c. told _ _ c.before.wide.ensures (is_short _ (omega arith)))  -- returns-2
-    (λ c. told _ _ c.before.before.wide.ensures (ap header.Object c.object-widths.ensures ∙ is_object _ (omega arith)))  -- returns-3
-    (λ c. told _ _ c.before.before.wide.ensures (ap header.List c.list-widths.ensures ∙ is_list _ (omega arith))))  -- returns-4
+    (λ c κs. search rules) (λ c κs. search rules) (λ c κs. search rules)
+    (λ c. told _ _ c.wide-b.ensures (is_primitive _ (omega arith)))  -- returns
+    (λ c. told _ _ c.wide-b.ensures (is_short _ (omega arith)))  -- returns-2
+    (λ c. told _ _ c.wide-b.ensures (ap header.Object c.object_widths.ensures ∙ is_object _ (omega arith)))  -- returns-3
+    (λ c. told _ _ c.wide-b.ensures (ap header.List c.list_widths.ensures ∙ is_list _ (omega arith))))  -- returns-4

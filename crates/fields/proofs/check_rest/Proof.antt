@@ -1,5 +1,5 @@
 -- `fields::check_rest` meets its contract: the table of names, then that of offsets. Assumes nothing.
-use Rattle.rules.proofs.Prelude.{◌≡◌, sym, ap, ◌∙◌, List, ℕ, needs, Found, first, each, Passed, pass, stops, goes}
+use Rattle.rules.proofs.Prelude.{◌≡◌, sym, ap, ◌∙◌, List, ℕ, rules, Found, first, each, Passed, pass, stops, goes}
 use Rattle.dictionary.specs.Dictionary as dictionary
 use Rattle.layer.specs.declared.Refusal.{Refusal}
 use Rattle.layer.specs.Object.{count, head_rules, name_rules, offset_rules, checks}
@@ -22,6 +22,6 @@ pub check_rest_spec : {M : Type 1} → statement M
 check_rest_spec =
     tie.close
     (tie.spec
-    (λ c κs. search needs) (λ c. search needs) (λ c. search needs) (λ c κs. search needs)
-    (λ c. let s = c.before.before.before.before.before.before in search (needs, stopped _ _ s.requires.0.1 s.requires.1.passes))  -- returns
-    (λ c. let s = c.before.before.before.before.before.before in search (needs, passed _ _ s.requires.0.1 s.requires.1.passes)))  -- returns-2
+    (λ c κs. search rules) (λ c. search rules) (λ c. search rules) (λ c κs. search rules)
+    (λ c. let s = c in search (rules, stopped _ _ s.requires.0.1 s.requires.1.passes))  -- returns
+    (λ c. let s = c in search (rules, passed _ _ s.requires.0.1 s.requires.1.passes)))  -- returns-2

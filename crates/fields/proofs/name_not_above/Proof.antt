@@ -1,5 +1,5 @@
 -- `fields::name_not_above` meets its contract: the first field is none, and of the others the names tell. Assumes nothing.
-use Rattle.rules.proofs.Prelude.{refl, Bool, true, false, not, ℕ, ◌<◌, arith, needs, Says, ◌<?◌, isn't, ◌and◌}
+use Rattle.rules.proofs.Prelude.{refl, Bool, true, false, not, ℕ, ◌<◌, arith, rules, Says, ◌<?◌, isn't, ◌and◌}
 use Rattle.part.specs.Part.{part}
 use Rattle.names.specs.Order.{below}
 use Rattle.fields.proofs.name_not_above.Statement.{statement}
@@ -14,7 +14,7 @@ name_not_above_spec =
     tie.close
     (tie.spec
     (λ c. λ p. absurd (omega arith))  -- returns
-    (λ c. search needs) (λ c. search needs) (λ c. search needs) (λ c. search needs) (λ c. search needs) (λ c. search needs)
-    (λ c κs. search needs)
-    (λ c. let a = c.before.before.before.before.before.args in
-    rw c.is_below.ensures (says_not a.k (below (part a.dict.now a.p a.q) (part a.dict.now a.a a.e)) (omega arith))))  -- returns-2
+    (λ c. search rules) (λ c. search rules) (λ c. search rules) (λ c. search rules) (λ c. search rules) (λ c. search rules)
+    (λ c κs. search rules)
+    (λ c. let a = c.args in
+    rw c.is_below-rises.ensures (says_not a.k (below (part a.dict.now a.p a.q) (part a.dict.now a.a a.e)) (omega arith))))  -- returns-2

@@ -1,5 +1,5 @@
 -- `fill::write_all` meets its contract: the first byte, the count, and offsets and names. Assumes nothing.
-use Rattle.rules.proofs.Prelude.{◌∙◌, arith, needs, length, length-set}
+use Rattle.rules.proofs.Prelude.{◌∙◌, arith, rules, length, length-set}
 use Rattle.lay.proofs.Items.{items_names, lent_names}
 use Rattle.lay.proofs.Laws.{offsets_length, joined_length}
 use Rattle.fill.specs.Steps.{list_of}
@@ -11,13 +11,13 @@ pub write_all_spec : {M : Type 1} → statement M
 write_all_spec =
     tie.close
     (tie.spec
-    (λ c. search needs) (λ c. search needs) (λ c. search needs) (λ c. search needs)  -- the first byte
-    (λ c. let p = c.before.before.before.before.requires.2 in omega (arith, p.fits, p.region_is))  -- slice-write-room
-    (λ c κs. let s = c.before.before.before.before.before in
+    (λ c. search rules) (λ c. search rules) (λ c. search rules) (λ c. search rules)  -- the first byte
+    (λ c. let p = c.requires.2 in omega (arith, p.fits, p.region_is))  -- slice-write-room
+    (λ c κs. let s = c in
     let p = s.requires.2 in
     simp length-set (omega (arith, p.fits, p.region_is)))  -- number-requires
-    (λ c. search needs)  -- add-write-entries
-    (λ c κs. let s = c.before.before.before.before.before.before.before.before.before in
+    (λ c. search rules)  -- add-write-entries
+    (λ c κs. let s = c in
     let p = s.requires.2 in
     let w = s.args.w in
     let names = list_of s.args.run.now s.args.ends.now in (
@@ -25,11 +25,11 @@ write_all_spec =
       s.requires.1,
       rw (items_names s.args.run.now s.args.ends.now) record {
         offsets_fit = omega (arith, p.region_is, offsets_length w 0 names);
-        items_fit = omega (arith, p.fits, joined_length names, simp length-set at c.before.before.before.number.auto.1.1.0);
+        items_fit = omega (arith, p.fits, joined_length names, simp length-set at c.number.auto.room);
       },
     ))  -- write-entries-requires
-    (λ c. c.before.before.write_entries.auto.1.1.1.1.1.0 ∙ c.before.before.before.before.before.before.number.auto.1.1.0 ∙ simp length-set)  -- same-length
-    (λ c. let s = c.before.before.before.before.before.before.before.before.before.before.before.before in
+    (λ c. c.write_entries.auto.room ∙ c.number.auto.room ∙ simp length-set)  -- same-length
+    (λ c. let s = c in
     let p = s.requires.2 in
     let whole = all_filled s.args.w _ s.args.room.now s.args.count s.args.region p.count_is p.region_is in
-    rw (c.before.before.write_entries.ensures, items_names s.args.run.now s.args.ends.now, c.before.before.before.before.before.before.number.ensures) whole))  -- returns
+    rw (c.write_entries.ensures, items_names s.args.run.now s.args.ends.now, c.number.ensures) whole))  -- returns

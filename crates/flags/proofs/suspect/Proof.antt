@@ -1,6 +1,6 @@
 -- `flags::suspect` meets its contract: where no test of the flag holds, none of the row's does. Assumes nothing.
 use borrow.Author.Tests.{le-leb}
-use Rattle.rules.proofs.Prelude.{◌≡◌, ap, Bool, false, ◌&&◌, ◌||◌, ℕ, ◌+◌, ◌-◌, ◌≤◌, ◌<◌, arith, needs, ltb, leb, ltb-false, leb-false, ◌≤?◌, ◌&◌, get_or}
+use Rattle.rules.proofs.Prelude.{◌≡◌, ap, Bool, false, ◌&&◌, ◌||◌, ℕ, ◌+◌, ◌-◌, ◌≤◌, ◌<◌, arith, rules, ltb, leb, ltb-false, leb-false, ◌≤?◌, ◌&◌, get_or}
 use Rattle.rules.proofs.Laws.{neither, either_way}
 use Rattle.flags.proofs.suspect.Statement.{statement}
 use Rattle.flags.proofs.suspect.Tie as tie
@@ -22,7 +22,7 @@ pub suspect_spec : {M : Type 1} → statement M
 suspect_spec =
     tie.close
     (tie.spec
-    (λ c κs. search needs) (λ c. search needs)
+    (λ c κs. search rules) (λ c. search rules)
     (λ c. λ quiet. omega (arith, falls_not) & omega (arith, past_not) & λ inside low.
-    let same = ap (λ i. get_or c.before.before.before.args.region.now i 0) (c.before.looked-at.ensures.1 (omega (arith, falls_not))) in
+    let same = ap (λ i. get_or c.args.region.now i 0) (c.looked_at.ensures.1 (omega (arith, falls_not))) in
     omega (arith, between_not)))  -- returns

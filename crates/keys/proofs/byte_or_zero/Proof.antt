@@ -11,4 +11,4 @@ byte_or_zero_spec =
     tie.close
     (tie.spec
     (λ c. search rules) (λ c κs. search rules) (λ c. search rules)
-    (λ c. let s = c.before.before.args.s.now in (sym (get_or-eq_default s 0 (omega arith)), omega arith)))  -- returns-2
+    (λ c. let s = c.args.s.now in (sym (get_or-eq_default s 0 (omega arith)), omega arith)))  -- returns-2

@@ -13,17 +13,17 @@ key_spec =
     tie.close
     (tie.spec
     (λ c. search rules)
-    (λ c. let a = c.before.before.args in
-    let octets = small a.s.now c.before.shared-slice-known.given in
+    (λ c. let a = c.args in
+    let octets = small a.s.now c.shared_slice_known-1.given in
     key_of (part a.s.now a.from a.to) (part_octets a.s.now a.from a.to octets) (omega (arith, part_none a.s.now a.from a.to (omega arith))))  -- returns
     (λ c. search rules) (λ c. search rules) (λ c. search rules) (λ c. search rules)
     (λ c κs. search rules) (λ c. search rules) (λ c κs. search rules) (λ c. search rules)
-    (λ c. let a = c.before.before.before.before.before.before.args in
+    (λ c. let a = c.args in
     let name = part a.s.now a.from a.to in
-    let octets = part_octets a.s.now a.from a.to (small a.s.now c.before.before.before.before.before.shared-slice-known.given) in
+    let octets = part_octets a.s.now a.from a.to (small a.s.now c.shared_slice_known-1.given) in
     key_of name octets (omega (arith, be_eight name 0)))  -- returns-2
     (λ c κs. search rules) (λ c. omega arith) (λ c. omega arith) (λ c κs. search rules) (λ c. omega arith) (λ c. omega arith)
-    (λ c. let a = c.before.before.before.before.before.args in
-    let octets = small a.s.now c.before.before.before.before.shared-slice-known.given in
-    let is = key_shifted a.s.now a.from octets a.to (64 - 8 * c.before.least.result) (omega arith) (omega arith) c.word.ensures in
+    (λ c. let a = c.args in
+    let octets = small a.s.now c.shared_slice_known-1.given in
+    let is = key_shifted a.s.now a.from octets a.to (64 - 8 * c.least.result) (omega arith) (omega arith) c.word.ensures in
     key_of (part a.s.now a.from a.to) (part_octets a.s.now a.from a.to octets) (rw is)))  -- returns-3

@@ -11,4 +11,4 @@ padded_half_spec =
     (tie.spec
     (λ c κs. search rules) (λ c. search rules) (λ c. search rules) (λ c κs. search rules) (λ c. search rules) (λ c. search rules) (λ c. search rules)
     (λ c κs. search rules) (λ c. search rules) (λ c. search rules) (λ c. search rules) (λ c κs. search rules) (λ c. search rules)
-    (λ c. let a = c.before.before.before.before.before.args in (omega (arith, be_four a.s.now a.at), omega arith)))  -- returns
+    (λ c. let a = c.args in (omega (arith, be_four a.s.now a.at), omega arith)))  -- returns

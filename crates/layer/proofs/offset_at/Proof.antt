@@ -5,9 +5,9 @@ use Rattle.layer.proofs.Laws.{offset_inside}
 use Rattle.layer.proofs.offset_at.Statement.{statement}
 use Rattle.layer.proofs.offset_at.Tie as tie
 
-inside : (c : tie.After-shared-slice-known) → let a = c.before.args in a.l.offsets + a.l.offset_width * a.k + a.l.offset_width ≤ length a.object.now
+inside : (c : tie.After-shared_slice_known-1) → let a = c.args in a.l.offsets + a.l.offset_width * a.k + a.l.offset_width ≤ length a.object.now
 inside c =
-    let s = c.before in
+    let s = c in
     let a = s.args in
     let l = s.requires.0 in
     omega (arith, offset_inside a.object.now a.l.offset_width a.k l.offset_width_is s.requires.1)
@@ -20,5 +20,5 @@ offset_at_spec =
     (λ c. omega (arith, inside c))  -- mul-unpack-u32
     (λ c. omega (arith, inside c.before))  -- add-unpack-u32
     (λ c κs. omega (arith, inside c.before))  -- unpack-u32-requires
-    (λ c. let l = c.before.before.before.requires.0 in
-    (c.unpack-u32.ensures.is ∙ rw (l.offsets_is, l.offset_width_is), c.unpack-u32.ensures.fits)))  -- returns
+    (λ c. let l = c.requires.0 in
+    (c.unpack_u32.ensures.is ∙ rw (l.offsets_is, l.offset_width_is), c.unpack_u32.ensures.fits)))  -- returns

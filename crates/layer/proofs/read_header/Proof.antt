@@ -1,5 +1,5 @@
 -- `layer::read_header` meets its contract: length, type, and then the layout. The limit is opened here. Assumes nothing.
-use Rattle.rules.proofs.Prelude.{◌∙◌, sym, arith, needs, first_at, ◌&◌}
+use Rattle.rules.proofs.Prelude.{◌∙◌, sym, arith, rules, first_at, ◌&◌}
 use Rattle.dictionary.specs.Limits.{limit}
 use Rattle.encoding.proofs.Laws.{other_type, object_says}
 use Rattle.layer.specs.Object.{basic_type}
@@ -13,17 +13,17 @@ read_header_spec =
     (tie.spec
     (λ c. first_at 0 _ (omega arith))  -- returns
     (λ c. first_at 1 _ (omega arith))  -- returns-2
-    (λ c. search needs) (λ c κs. search needs) (λ c. search needs)
-    (λ c κs. let says = object_says _ _ (sym c.before.before.before.header_of.ensures.says ∙ c.before.header.given.1) in
+    (λ c. search rules) (λ c κs. search rules) (λ c. search rules)
+    (λ c κs. let says = object_says _ _ (sym c.header_of-header.ensures.says ∙ c.in-Object.is) in
     record {
-      not_long = c.before.before.before.before.before.before.if1.false;
-      not_empty = c.before.before.before.before.before.if2.false;
+      not_long = c.if-object-gt-LIMIT.false;
+      not_empty = c.if-object-lt1.false;
       is_object = says.0;
       widths_are = says.1;
-      few = rw c.before.header.given.1 at c.before.before.before.header_of.ensures.bounds;
+      few = rw c.in-Object.is at c.header_of-header.ensures.bounds;
     })  -- read-layout-requires
-    (λ c. search needs) (λ c. search needs) (λ c. search needs)
-    (λ c. search needs)  -- returns-3
-    (λ c. let other = other_type 2 _ _ c.before.before.header_of.ensures (rw c.enum_told.given.1 (λ e. omega arith)) in first_at 2 _ (omega arith & omega arith & other))  -- returns-4
-    (λ c. let other = other_type 2 _ _ c.before.before.header_of.ensures (rw c.enum-told2.given.1 (λ e. omega arith)) in first_at 2 _ (omega arith & omega arith & other))  -- returns-5
-    (λ c. let other = other_type 2 _ _ c.before.before.header_of.ensures (rw c.enum-told3.given.1 (λ e. omega arith)) in first_at 2 _ (omega arith & omega arith & other)))  -- returns-6
+    (λ c. search rules) (λ c. search rules) (λ c. search rules)
+    (λ c. search rules)  -- returns-3
+    (λ c. let other = other_type 2 _ _ c.header_of-header.ensures (rw c.in-Primitive.is (λ e. omega arith)) in first_at 2 _ (omega arith & omega arith & other))  -- returns-4
+    (λ c. let other = other_type 2 _ _ c.header_of-header.ensures (rw c.in-ShortString.is (λ e. omega arith)) in first_at 2 _ (omega arith & omega arith & other))  -- returns-5
+    (λ c. let other = other_type 2 _ _ c.header_of-header.ensures (rw c.in-List.is (λ e. omega arith)) in first_at 2 _ (omega arith & omega arith & other)))  -- returns-6

@@ -1,5 +1,5 @@
 -- `layer::read_layout` meets its contract: the layout's table is the object's after 22, and its numbers are the object's. Assumes nothing.
-use Rattle.rules.proofs.Prelude.{◌≡◌, ◌∙◌, List, ℕ, ◌+◌, arith, needs, first, stop}
+use Rattle.rules.proofs.Prelude.{◌≡◌, ◌∙◌, List, ℕ, ◌+◌, arith, rules as needs, first, stop}
 use Rattle.layout.specs.declared.Widths.{Widths}
 use Rattle.layout.specs.declared.Numbers.{Numbers}
 use Rattle.layout.specs.Layout.{rules}
@@ -42,7 +42,7 @@ read_layout_spec =
     (tie.spec
     (λ c κs. search needs) (λ c. search needs) (λ c. search needs) (λ c. search needs) (λ c. search needs)
     (λ c. search needs)  -- add-t9
-    (λ c. let h = rw c.enum_told.given.1 at c.before.before.read.ensures in stopped _ _ c.before.before.before.before.pre (h 23 24 23))  -- returns
-    (λ c. let h = rw c.enum-told2.given.1 at c.before.before.read.ensures in stopped _ _ c.before.before.before.before.pre (h 23 24 23))  -- returns-2
-    (λ c. let h = rw c.enum-told3.given.1 at c.before.before.read.ensures in stopped _ _ c.before.before.before.before.pre (h 23 24 23))  -- returns-3
-    (λ c. layer _ _ c.before.before.before.before.before.before.pre _ (rw c.before.before.head.given.1 at c.before.before.before.before.read.ensures)))  -- returns-4
+    (λ c. let h = rw c.in-Cut.is at c.read-head.ensures in stopped _ _ c.requires (h 23 24 23))  -- returns
+    (λ c. let h = rw c.in-Sum.is at c.read-head.ensures in stopped _ _ c.requires (h 23 24 23))  -- returns-2
+    (λ c. let h = rw c.in-Longer.is at c.read-head.ensures in stopped _ _ c.requires (h 23 24 23))  -- returns-3
+    (λ c. layer _ _ c.requires _ (rw c.in-Good.is at c.read-head.ensures)))  -- returns-4

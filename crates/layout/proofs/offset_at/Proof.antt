@@ -5,9 +5,9 @@ use Rattle.layout.proofs.Laws.{offset_inside, start_before}
 use Rattle.layout.proofs.offset_at.Statement.{statement}
 use Rattle.layout.proofs.offset_at.Tie as tie
 
-inside : (c : tie.After-shared-slice-known) → let a = c.before.args in a.l.offsets + a.w.offset * a.k + a.w.offset ≤ length a.s.now
+inside : (c : tie.After-shared_slice_known-1) → let a = c.args in a.l.offsets + a.w.offset * a.k + a.w.offset ≤ length a.s.now
 inside c =
-    let s = c.before in
+    let s = c in
     let a = s.args in
     let l = s.requires.1 in
     omega (arith, offset_inside a.w a.s.now a.k s.requires.2, l.passes)
@@ -19,6 +19,6 @@ offset_at_spec =
     (tie.spec
     (λ c. omega (arith, inside c))  -- mul-unpack-u32
     (λ c. omega (arith, inside c.before))  -- add-unpack-u32
-    (λ c κs. omega (arith, inside c.before, c.before.before.requires.0))  -- unpack-u32-requires
-    (λ c. let l = c.before.before.before.requires.1 in
-    (c.unpack-u32.ensures.is ∙ rw l.offsets_is, c.unpack-u32.ensures.fits)))  -- returns
+    (λ c κs. omega (arith, inside c.before, c.requires.0))  -- unpack-u32-requires
+    (λ c. let l = c.requires.1 in
+    (c.unpack_u32.ensures.is ∙ rw l.offsets_is, c.unpack_u32.ensures.fits)))  -- returns

@@ -8,4 +8,4 @@ fits_spec =
     tie.close
     (tie.spec
     (λ c yes. false_true yes)  -- returns
-    (λ c yes. let x = c.before.args in (omega arith, leb-true x.bytes x.room yes)))  -- returns-2
+    (λ c yes. let x = c.args in (omega arith, leb-true x.bytes x.room yes)))  -- returns-2

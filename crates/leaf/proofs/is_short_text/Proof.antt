@@ -7,8 +7,8 @@ pub is_short_text_spec : {M : Type 1} → statement M
 is_short_text_spec =
     tie.close
     (tie.spec
-    (λ c. omega (arith, c.before.requires))  -- sub-if1
+    (λ c. omega (arith, c.requires))  -- sub-if1
     (λ c yes. false_true yes)  -- returns
-    (λ c. omega (arith, c.before.before.requires)) (λ c. omega (arith, c.before.before.requires)) (λ c. omega (arith, c.before.before.requires))
-    (λ c κs. omega (arith, c.before.before.requires))  -- is-text-requires
-    (λ c yes. (omega (arith, c.before.if1.false, c.before.before.before.requires), c.is_text.ensures.if_so yes)))  -- returns-2
+    (λ c. omega (arith, c.requires)) (λ c. omega (arith, c.requires)) (λ c. omega (arith, c.requires))
+    (λ c κs. omega (arith, c.requires))  -- is-text-requires
+    (λ c yes. (omega (arith, c.if-e-a.false, c.requires), c.is_text.ensures.if_so yes)))  -- returns-2

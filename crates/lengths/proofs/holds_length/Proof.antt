@@ -9,5 +9,5 @@ unfolding holds_length
 holds_length_spec =
     tie.close
     (tie.spec
-    (λ c. rw (eq-eqb _ _ c.if1.true))  -- returns
-    (λ c. rw (ne_eqb _ _ c.if1.false)))  -- returns-2
+    (λ c. rw (eq-eqb _ _ c.if-t-eq15.true))  -- returns
+    (λ c. rw (ne_eqb _ _ c.if-t-eq15.false)))  -- returns-2

@@ -1,5 +1,5 @@
 -- `lengths::own_length` meets its contract: no bytes, or by what the header byte says. Assumes nothing.
-use Rattle.rules.proofs.Prelude.{◌≡◌, ◌∙◌, List, ℕ, ◌≤◌, arith, needs, length, get_or}
+use Rattle.rules.proofs.Prelude.{◌≡◌, ◌∙◌, List, ℕ, ◌≤◌, arith, rules, length, get_or}
 use Rattle.encoding.specs.declared.Header.{Header}
 use Rattle.lengths.specs.declared.Length.{Length}
 use Rattle.lengths.specs.Lengths.{length_by, own_length}
@@ -16,27 +16,27 @@ pub own_length_spec : {M : Type 1} → statement M
 own_length_spec =
     tie.close
     (tie.spec
-    (λ c. of_none _ c.if1.true)  -- returns
-    (λ c. search needs)  -- shared-slice-read-header-of
-    (λ c κs. search needs)  -- header-of-requires
-    (λ c. search needs)  -- enum-known-h
-    (λ c κs. search needs)  -- primitive-length-requires
-    (λ c. search needs)  -- enum-known-h-2
-    (λ c. let n = rw c.before.h2.given.1 at c.before.before.before.header_of.ensures.bounds in omega arith)  -- add-within
-    (λ c κs. search needs)  -- within-requires
-    (λ c. search needs)  -- enum-known-h-3
-    (λ c κs. rw c.before.h3.given.1 at c.before.before.before.header_of.ensures.bounds)  -- layout-length-requires
-    (λ c. search needs)  -- enum-known-h-4
-    (λ c κs. rw c.before.h4.given.1 at c.before.before.before.header_of.ensures.bounds)  -- layout-length-requires-2
-    (λ c. let n = c.before.before.before.before in
-    let says = rw c.before.before.h.given.1 at n.header_of.ensures in
-    told n.before.before.before.before.args.s.now _ says n.before.before.if1.false c.primitive-length.ensures)  -- returns-2
-    (λ c. let n = c.before.before.before.before in
-    let says = rw c.before.before.h2.given.1 at n.header_of.ensures in
-    told n.before.before.before.before.args.s.now _ says n.before.before.if1.false (c.within.ensures ∙ short_end _ _))  -- returns-3
-    (λ c. let n = c.before.before.before.before in
-    let says = rw c.before.before.h3.given.1 at n.header_of.ensures in
-    told n.before.before.before.before.args.s.now _ says n.before.before.if1.false c.layout-length.ensures)  -- returns-4
-    (λ c. let n = c.before.before.before.before in
-    let says = rw c.before.before.h4.given.1 at n.header_of.ensures in
-    told n.before.before.before.before.args.s.now _ says n.before.before.if1.false (c.layout-length2.ensures ∙ list_as_object _ _)))  -- returns-5
+    (λ c. of_none _ c.if-s-lt1.true)  -- returns
+    (λ c. search rules)  -- shared-slice-read-header-of
+    (λ c κs. search rules)  -- header-of-requires
+    (λ c. search rules)  -- enum-known-h
+    (λ c κs. search rules)  -- primitive-length-requires
+    (λ c. search rules)  -- enum-known-h-2
+    (λ c. let n = rw c.in-ShortString.is at c.header_of-h.ensures.bounds in omega arith)  -- add-within
+    (λ c κs. search rules)  -- within-requires
+    (λ c. search rules)  -- enum-known-h-3
+    (λ c κs. rw c.in-Object.is at c.header_of-h.ensures.bounds)  -- layout-length-requires
+    (λ c. search rules)  -- enum-known-h-4
+    (λ c κs. rw c.in-List.is at c.header_of-h.ensures.bounds)  -- layout-length-requires-2
+    (λ c. let n = c in
+    let says = rw c.in-Primitive.is at n.header_of-h.ensures in
+    told n.args.s.now _ says n.if-s-lt1.false c.primitive_length.ensures)  -- returns-2
+    (λ c. let n = c in
+    let says = rw c.in-ShortString.is at n.header_of-h.ensures in
+    told n.args.s.now _ says n.if-s-lt1.false (c.within.ensures ∙ short_end _ _))  -- returns-3
+    (λ c. let n = c in
+    let says = rw c.in-Object.is at n.header_of-h.ensures in
+    told n.args.s.now _ says n.if-s-lt1.false c.layout_length.ensures)  -- returns-4
+    (λ c. let n = c in
+    let says = rw c.in-List.is at n.header_of-h.ensures in
+    told n.args.s.now _ says n.if-s-lt1.false (c.layout_length-in-List.ensures ∙ list_as_object _ _)))  -- returns-5

@@ -10,6 +10,6 @@ unfolding u32_max case_of
 within_spec =
     tie.close
     (tie.spec
-    (λ c. let a = c.before.args in rw (first_at 0 (end_rules a.len a.n) (omega arith)))  -- returns
-    (λ c. let a = c.before.before.args in rw (first_at 1 (end_rules a.len a.n) (omega arith)))  -- returns-2
-    (λ c. let a = c.before.before.args in rw (first_pass (end_rules a.len a.n) (omega arith))))  -- returns-3
+    (λ c. let a = c.args in rw (first_at 0 (end_rules a.len a.n) (omega arith)))  -- returns
+    (λ c. let a = c.args in rw (first_at 1 (end_rules a.len a.n) (omega arith)))  -- returns-2
+    (λ c. let a = c.args in rw (first_pass (end_rules a.len a.n) (omega arith))))  -- returns-3

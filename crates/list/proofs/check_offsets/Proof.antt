@@ -6,10 +6,10 @@ use Rattle.list.specs.List.{element_rules}
 use Rattle.list.proofs.check_offsets.Statement.{statement}
 use Rattle.list.proofs.check_offsets.Tie as tie
 
-abbrev invariant_loop : tie.invariant-loop
+abbrev invariant_loop : tie.invariant-loop-k
 invariant_loop list w l count length from₀ k₀ from k = (first (each (element_rules w list) k) ≡ pass) × (from ≡ offset_of w list k) × (k ≤ count)
 
-abbrev decreases_loop : tie.decreases-loop
+abbrev decreases_loop : tie.decreases-loop-k
 decreases_loop list w l count length from₀ k₀ from k = count - k
 
 pub check_offsets_spec : {M : Type 1} → statement M
@@ -20,23 +20,23 @@ check_offsets_spec =
     invariant_loop
     decreases_loop
     (λ c. omega arith)  -- sub-length
-    (λ c κs. (c.before.before.requires.0, c.before.before.requires.1, omega arith))  -- offset-at-requires
+    (λ c κs. (c.requires.0, c.requires.1, omega arith))  -- offset-at-requires
     (λ c. (each_none _, omega arith, omega arith))  -- loop-holds
     (λ c. omega arith)  -- add-offset-at
-    (λ c κs. (c.before.before.before.before.before.requires.0, c.before.before.before.before.before.requires.1, omega arith))  -- offset-at-requires-2
-    (λ c. let l = c.before.before.before.loop in
-    let a = c.before.before.before.before.before.before.before.args in
+    (λ c κs. (c.requires.0, c.requires.1, omega arith))  -- offset-at-requires-2
+    (λ c. let l = c.loop-k in
+    let a = c.args in
     sym (each_stop _ l.k _ l.invariant.0 (first_at 0 (element_rules a.w a.list.now l.k) (omega arith)) (omega arith)))  -- returns
-    (λ c. let l = c.before.before.before.before.loop in
-    let a = c.before.before.before.before.before.before.before.before.args in
+    (λ c. let l = c.loop-k in
+    let a = c.args in
     let rows = element_rules a.w a.list.now l.k in
     sym (each_stop _ l.k _ l.invariant.0 (first_at 1 rows (omega (arith, end_is a.w a.list.now))) (omega arith)))  -- returns-2
     (λ c. omega arith) (λ c. omega arith)
-    (λ c. let l = c.before.before.before.before.loop in
-    let a = c.before.before.before.before.before.before.before.before.args in
+    (λ c. let l = c.loop-k in
+    let a = c.args in
     let rows = element_rules a.w a.list.now l.k in
     (each_more _ l.k l.invariant.0 ∙ first_pass rows (omega (arith, end_is a.w a.list.now)), omega arith, omega arith))  -- loop-again
-    (λ c. let l = c.before.loop in
-    let a = c.before.before.before.before.before.args in
+    (λ c. let l = c.loop-k in
+    let a = c.args in
     let all : l.k ≡ count_of a.w a.list.now = omega arith in
     rw (← all) (sym l.invariant.0)))  -- returns-3

@@ -1,5 +1,5 @@
 -- `listing::answer` meets its contract: case by case. Assumes nothing.
-use Rattle.rules.proofs.Prelude.{needs}
+use Rattle.rules.proofs.Prelude.{rules}
 use Rattle.listing.proofs.answer.Statement.{statement}
 use Rattle.listing.proofs.answer.Tie as tie
 
@@ -7,6 +7,6 @@ pub answer_spec : {M : Type 1} → statement M
 answer_spec =
     tie.close
     (tie.spec
-    (λ c. search needs) (λ c. search needs)
-    (λ c. rw c.before.decreases.given.1)  -- returns
-    (λ c. rw c.enum_told.given.1))  -- returns-2
+    (λ c. search rules) (λ c. search rules)
+    (λ c. rw c.in-NoLength.is)  -- returns
+    (λ c. rw c.in-All.is))  -- returns-2

@@ -1,5 +1,5 @@
 -- `listing::list` meets its contract: the layer's refusal, or 43, or 41, or the rows. Assumes nothing.
-use Rattle.rules.proofs.Prelude.{◌≡◌, refl, sym, ap, ◌∙◌, Bool, true, false, ◌&&◌, ltb, ltb-true, ltb-false, List, [], ◌++◌, ℕ, ◌*◌, ◌≤◌, ◌<◌, arith, needs}
+use Rattle.rules.proofs.Prelude.{◌≡◌, refl, sym, ap, ◌∙◌, Bool, true, false, ◌&&◌, ltb, ltb-true, ltb-false, List, [], ◌++◌, ℕ, ◌*◌, ◌≤◌, ◌<◌, arith, rules}
 use Rattle.rules.proofs.Prelude.{length, drop, first, each, refused, answered, stops, goes, stop, pass, first_at, first_pass, false_true, not-true, not-false}
 use Rattle.rules.proofs.Laws.{both}
 use Rattle.width.specs.Limits.{u32_max}
@@ -71,30 +71,30 @@ module _ (d o w after : List ℕ) (m : Measured) (l : Layer) (passes : checks d 
           record { answers = ap listing_numbers r-is ∙ sym (answered _ c ∙ rw (← is.count_is, ← is.start_is, ← is.end_is)); leaves = written ∙ rw c }
 
 -- WHAT IS KNOWN after the check of room: of the message, and of the words
-module _ (s : tie.After-lacks-room) where
+module _ (s : tie.After-lacks_room) where
   abbrev dict : List ℕ
-  dict = s.before.before.before.before.before.before.before.before.before.before.before.args.dict.now
+  dict = s.args.dict.now
 
   abbrev object : List ℕ
-  object = s.before.before.before.before.before.before.before.before.before.before.before.args.object.now
+  object = s.args.object.now
 
   abbrev words : List ℕ
-  words = s.before.before.before.before.before.before.before.before.before.before.before.args.words.now
+  words = s.args.words.now
 
   abbrev fields : ℕ
-  fields = s.before.before.before.before.before.opening2.given.0.0.layer.count
+  fields = s.in-Open.m.layer.count
 
-  message : MessageOf dict object s.before.before.before.before.before.opening2.given.0.0
-  message = rw s.before.before.before.before.before.opening2.given.1 at s.before.before.before.before.before.before.before.«open».ensures
+  message : MessageOf dict object s.in-Open.m
+  message = rw s.in-Open.is at s.open-opening.ensures
 
-  enough : is_all s.before.before.measure.result ≡ true → s.lacks-room.result ≡ false → 3 * count object ≤ length words
+  enough : is_all s.measure-measured.result ≡ true → s.lacks_room.result ≡ false → 3 * count object ≤ length words
   enough all lacks =
-      let room = has_room s.before.before.measure.result (length words) (3 * fields) all (sym s.lacks-room.ensures ∙ lacks) in
+      let room = has_room s.measure-measured.result (length words) (3 * fields) all (sym s.lacks_room.ensures ∙ lacks) in
       omega (arith, room, message.layered.count_is)
 
-  too_few : s.lacks-room.result ≡ true → (is_all s.before.before.measure.result ≡ true) × (length words < 3 * count object)
+  too_few : s.lacks_room.result ≡ true → (is_all s.measure-measured.result ≡ true) × (length words < 3 * count object)
   too_few lacks =
-      let both_so = both (ltb (length words) (3 * fields)) (is_all s.before.before.measure.result) (sym s.lacks-room.ensures ∙ lacks) in
+      let both_so = both (ltb (length words) (3 * fields)) (is_all s.measure-measured.result) (sym s.lacks_room.ensures ∙ lacks) in
       (both_so.1, omega (arith, ltb-true (length words) (3 * fields) both_so.0, message.layered.count_is))
 
 pub list_spec : {M : Type 1} → statement M
@@ -102,30 +102,30 @@ unfolding u32_max list_checks_within listed_within words_after_within
 list_spec =
     tie.close
     (tie.spec
-    (λ c κs. search needs) (λ c. search needs) (λ c. search needs)
-    (λ c κs. let m = rw c.before.before.opening2.given.1 at c.before.before.before.before.«open».ensures in
+    (λ c κs. search rules) (λ c. search rules) (λ c. search rules)
+    (λ c κs. let m = rw c.in-Open.is at c.open-opening.ensures in
     (m.layered, in_region _ _ m.passes))  -- measure-requires
-    (λ c. let m = rw c.before.before.before.before.opening2.given.1 at c.before.before.before.before.before.before.«open».ensures in
-    omega (arith, m.layered, count_below c.before.before.before.before.before.before.before.before.before.before.args.object.now))  -- mul-lacks-room
-    (λ c κs. search needs)  -- lacks-room-requires
-    (λ c. let s = c.before in
-    let few = too_few s c.if1.true in
-    let e = no_room _ _ (words s) s.before.before.measure.result (message s).passes s.before.before.measure.ensures few.0 few.1 in
+    (λ c. let m = rw c.in-Open.is at c.open-opening.ensures in
+    omega (arith, m.layered, count_below c.args.object.now))  -- mul-lacks-room
+    (λ c κs. search rules)  -- lacks-room-requires
+    (λ c. let s = c in
+    let few = too_few c.before c.if-lacks_room.true in
+    let e = no_room _ _ (words c.before) s.measure-measured.result (message c.before).passes s.measure-measured.ensures few.0 few.1 in
     record { answers = sym (refused _ e); leaves = rw e })  -- returns
-    (λ c κs. search needs)  -- has-all-requires
-    (λ c κs. search needs)  -- answer-requires
-    (λ c. let s = c.before.before.before.before in
-    let bad = sym c.before.before.Has-All.ensures ∙ not-true _ c.before.if2.true in
-    refuses _ _ (words s) [] s.before.before.measure.result _ (message s).passes (message s).layered s.before.before.measure.ensures
+    (λ c κs. search rules)  -- has-all-requires
+    (λ c κs. search rules)  -- answer-requires
+    (λ c. let s = c in
+    let bad = sym c.has_all.ensures ∙ c.if-not-has_all.true in
+    refuses _ _ (words c.before.before.before.before) [] s.measure-measured.result _ (message c.before.before.before.before).passes (message c.before.before.before.before).layered s.measure-measured.ensures
     c.answer.ensures bad)  -- returns-2
-    (λ c κs. let s = c.before.before.before.before in
-    let all = sym c.before.before.Has-All.ensures ∙ not-false _ c.before.if2.false in
-    ((message s).layered, in_region _ _ (message s).passes, enough s all c.before.before.before.if1.false))  -- write-rows-requires
-    (λ c κs. search needs)  -- answer-requires-2
-    (λ c. let e = stops _ (rw c.before.opening.given.1 at c.before.before.before.«open».ensures) in
+    (λ c κs. let s = c in
+    let all = sym c.has_all.ensures ∙ c.if-not-has_all.false in
+    ((message c.before.before.before.before).layered, in_region _ _ (message c.before.before.before.before).passes, enough c.before.before.before.before all c.if-lacks_room.false))  -- write-rows-requires
+    (λ c κs. search rules)  -- answer-requires-2
+    (λ c. let e = stops _ (rw c.in-Refused.is at c.open-opening.ensures) in
     record { answers = sym (refused _ e); leaves = rw e })  -- returns-3
-    (λ c. search needs)  -- same-length
-    (λ c. let s = c.before.before.before.before.before.before.before.before in
-    let all = sym c.before.before.before.before.before.before.Has-All.ensures ∙ not-false _ c.before.before.before.before.before.if2.false in
-    lists _ _ (words s) _ s.before.before.measure.result _ (message s).passes (message s).layered s.before.before.measure.ensures
-    c.answer2.ensures all (enough s all c.before.before.before.before.before.before.before.if1.false) c.before.before.before.write-rows.ensures))  -- returns-4
+    (λ c. search rules)  -- same-length
+    (λ c. let s = c in
+    let all = sym c.has_all.ensures ∙ c.if-not-has_all.false in
+    lists _ _ (words c.before.before.before.before.before.before.before.before) _ s.measure-measured.result _ (message c.before.before.before.before.before.before.before.before).passes (message c.before.before.before.before.before.before.before.before).layered s.measure-measured.ensures
+    c.answer-in-Open.ensures all (enough c.before.before.before.before.before.before.before.before all c.if-lacks_room.false) c.write_rows.ensures))  -- returns-4

@@ -7,10 +7,10 @@ use Rattle.listing.specs.Words.{span_rules}
 use Rattle.listing.proofs.measure.Statement.{statement}
 use Rattle.listing.proofs.measure.Tie as tie
 
-abbrev invariant_loop : tie.invariant-loop
+abbrev invariant_loop : tie.invariant-loop-k
 invariant_loop object l count k₀ k = (k ≤ count) × (first (each (span_rules object) k) ≡ pass)
 
-abbrev decreases_loop : tie.decreases-loop
+abbrev decreases_loop : tie.decreases-loop-k
 decreases_loop object l count k₀ k = count - k
 
 pub measure_spec : {M : Type 1} → statement M
@@ -21,18 +21,18 @@ measure_spec =
     invariant_loop
     decreases_loop
     (λ c. (omega arith, each_none _))  -- loop-holds
-    (λ c κs. (c.before.before.before.requires.0, omega arith, c.before.before.before.requires.1 _ (omega arith)))  -- own-length-requires
+    (λ c κs. (c.requires.0, omega arith, c.requires.1 _ (omega arith)))  -- own-length-requires
     (λ c κs. tt)  -- is-known-requires
-    (λ c. let l = c.before.before.before.before.loop in
-    let o = c.before.before.before.before.before.before.args.object.now in
-    let none = sym (c.before.is_known.ensures ∙ ap is_known c.before.before.own_length_law.ensures) ∙ not-true _ c.if1.true in
+    (λ c. let l = c.loop-k in
+    let o = c.args.object.now in
+    let none = sym (c.is_known-known.ensures ∙ ap is_known c.own_length.ensures) ∙ c.if-not-known.true in
     sym (each_stop _ l.k _ l.invariant.1 (first_at 0 (span_rules o l.k) none) (omega arith)))  -- returns
-    (λ c. omega (arith, count_below c.before.before.before.before.before.before.args.object.now))  -- add-k
+    (λ c. omega (arith, count_below c.args.object.now))  -- add-k
     (λ c. omega arith)  -- loop-less
-    (λ c. let l = c.before.before.before.before.loop in
-    let o = c.before.before.before.before.before.before.args.object.now in
-    let some = sym (c.before.is_known.ensures ∙ ap is_known c.before.before.own_length_law.ensures) ∙ not-false _ c.if1.false in
+    (λ c. let l = c.loop-k in
+    let o = c.args.object.now in
+    let some = sym (c.is_known-known.ensures ∙ ap is_known c.own_length.ensures) ∙ c.if-not-known.false in
     (omega arith, each_more _ l.k l.invariant.1 ∙ first_pass (span_rules o l.k) (some & tt)))  -- loop-again
-    (λ c. let l = c.before.loop in
-    let all : l.k ≡ count_of c.before.before.before.args.object.now = omega arith in
+    (λ c. let l = c.loop-k in
+    let all : l.k ≡ count_of c.args.object.now = omega arith in
     rw (← all) (sym l.invariant.1)))  -- returns-2

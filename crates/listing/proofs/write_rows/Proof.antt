@@ -11,30 +11,30 @@ use Rattle.listing.proofs.Rows.{turn}
 use Rattle.listing.proofs.write_rows.Statement.{statement}
 use Rattle.listing.proofs.write_rows.Tie as tie
 
-abbrev invariant_loop : tie.invariant-loop
+abbrev invariant_loop : tie.invariant-loop-k
 invariant_loop object l words₀ fields at₀ k₀ words at k = (words ≡ rows object k ++ drop at words₀) × (at ≡ 3 * k) × (k ≤ fields) × (length words ≡ length words₀)
 
-abbrev decreases_loop : tie.decreases-loop
+abbrev decreases_loop : tie.decreases-loop-k
 decreases_loop object l words₀ fields at₀ k₀ words at k = fields - k
 
-module _ (c : tie.After-id-at invariant_loop decreases_loop) where
+module _ (c : tie.After-id_at invariant_loop decreases_loop) where
   abbrev object : List ℕ
-  object = c.before.before.before.before.before.before.before.before.args.object.now
+  object = c.args.object.now
 
   abbrev layer : Layer
-  layer = c.before.before.before.before.before.before.before.before.args.l
+  layer = c.args.l
 
   abbrev field : ℕ
-  field = c.before.before.before.before.before.loop.k
+  field = c.loop-k.k
 
   -- the span is the child's own length
-  span_is : c.before.bytes_of.result ≡ span object field
+  span_is : c.bytes_of-span.result ≡ span object field
   unfolding span
-  span_is = c.before.bytes_of.ensures ∙ ap bytes_of c.before.before.own_length_law.ensures
+  span_is = c.bytes_of-span.ensures ∙ ap bytes_of c.own_length.ensures
 
   -- a child and its span end before the trimmed end
-  inside : layer.start + c.before.before.before.offset_at.result + c.before.bytes_of.result ≤ layer.end
-  inside = let s = c.before.before.before.before.before.before.before.before in omega (arith, span_inside object field (s.requires.1 field (omega arith)) (omega arith), span_is)
+  inside : layer.start + c.offset_at-offset.result + c.bytes_of-span.result ≤ layer.end
+  inside = let s = c in omega (arith, span_inside object field (s.requires.1 field (omega arith)) (omega arith), span_is)
 
 pub write_rows_spec : {M : Type 1} → statement M
 unfolding u32_max
@@ -45,7 +45,7 @@ write_rows_spec =
     decreases_loop
     (λ c. (rows_none _ _, omega arith, omega arith, refl))  -- loop-holds
     (λ c κs. omega arith)  -- offset-at-requires
-    (λ c κs. let s = c.before.before.before.before.before in (s.requires.0, omega arith, s.requires.1 _ (omega arith)))  -- own-length-requires
+    (λ c κs. let s = c in (s.requires.0, omega arith, s.requires.1 _ (omega arith)))  -- own-length-requires
     (λ c κs. tt)  -- bytes-of-requires
     (λ c κs. omega arith)  -- id-at-requires
     (λ c. omega arith) (λ c. omega arith) (λ c. omega arith)
@@ -57,16 +57,16 @@ write_rows_spec =
     (λ c. omega arith) (λ c. omega arith)
     (λ c. simp length-set (omega arith))  -- slice-write-words-3
     (λ c. omega arith) (λ c. omega arith) (λ c. omega arith)
-    (λ c. let l = c.before.before.before.before.before.before.loop in
-    let s = c.before.before.before.before.before.before.before.before.before in (
-      turn s.args.object.now _ l.words l.k l.at l.invariant.0 l.invariant.1 c.before.id-at.ensures.0 (omega arith) (span_is c.before) (omega arith),
+    (λ c. let l = c.loop-k in
+    let s = c in (
+      turn s.args.object.now _ l.words l.k l.at l.invariant.0 l.invariant.1 c.id_at.ensures.0 (omega arith) (span_is c.before) (omega arith),
       omega arith,
       omega arith,
       simp length-set l.invariant.3,
     ))  -- loop-again
-    (λ c. c.before.loop.invariant.3)  -- same-length
-    (λ c. let l = c.before.loop in
-    let n = count_of c.before.before.before.before.args.object.now in
+    (λ c. c.loop-k.invariant.3)  -- same-length
+    (λ c. let l = c.loop-k in
+    let n = count_of c.args.object.now in
     let all : l.k ≡ n = omega arith in
     let words : l.at ≡ 3 * n = omega arith in
     rw (all, words) at l.invariant.0))  -- returns

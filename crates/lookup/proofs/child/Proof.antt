@@ -8,5 +8,5 @@ child_spec =
     tie.close
     (tie.spec
     (λ c κs. search rules) (λ c. search rules) (λ c. search rules) (λ c. search rules)
-    (λ c. let p = c.before.child-place.ensures in
+    (λ c. let p = c.child_place-place.ensures in
     record { bytes = rw (← p.start_is, ← p.end_is); place = rw (← p.start_is) }))  -- returns

@@ -1,5 +1,5 @@
 -- `lookup::compare_field` meets its contract: the name of the field is the dictionary's at its id. Assumes nothing.
-use Rattle.rules.proofs.Prelude.{◌∙◌, arith, needs}
+use Rattle.rules.proofs.Prelude.{◌∙◌, arith, rules}
 use Rattle.layer.specs.Object.{field_name}
 use Rattle.layer.proofs.Laws.{entry_of}
 use Rattle.lookup.proofs.compare_field.Statement.{statement}
@@ -10,8 +10,8 @@ unfolding field_name
 compare_field_spec =
     tie.close
     (tie.spec
-    (λ c κs. search needs)  -- id-at-requires
-    (λ c κs. let s = c.before.before.before.before in
+    (λ c κs. search rules)  -- id-at-requires
+    (λ c κs. let s = c in
     (s.requires.0.over, omega (arith, entry_of s.args.dict.now s.args.object.now s.requires.0.passes s.args.k s.requires.1)))  -- span-of-requires
-    (λ c. search needs) (λ c. search needs) (λ c. search needs) (λ c κs. search needs)
-    (λ c. c.compare.ensures ∙ rw (c.before.before.Span-of.ensures.name_is, c.before.before.before.id-at.ensures.0)))  -- returns
+    (λ c. search rules) (λ c. search rules) (λ c. search rules) (λ c κs. search rules)
+    (λ c. c.compare.ensures ∙ rw (c.span_of-field.ensures.name_is, c.id_at-id.ensures.0)))  -- returns

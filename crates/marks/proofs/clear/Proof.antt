@@ -5,10 +5,10 @@ use Rattle.marks.proofs.Laws.{cleared_all}
 use Rattle.marks.proofs.clear.Statement.{statement}
 use Rattle.marks.proofs.clear.Tie as tie
 
-abbrev invariant_loop : tie.invariant-loop
+abbrev invariant_loop : tie.invariant-loop-k
 invariant_loop marks₀ k₀ marks k = (k ≤ length marks) × (length marks ≡ length marks₀) × (marks ≡ replicate k 0 ++ drop k marks₀)
 
-abbrev decreases_loop : tie.decreases-loop
+abbrev decreases_loop : tie.decreases-loop-k
 decreases_loop marks₀ k₀ marks k = length marks₀ - k
 
 pub clear_spec : {M : Type 1} → statement M
@@ -22,7 +22,7 @@ clear_spec =
     (λ c. omega arith)  -- add-k
     (λ c. omega arith)  -- loop-less
     (λ c.
-    let l = c.before.loop in
+    let l = c.loop-k in
     (simp length-set (omega arith), simp length-set l.invariant.1, ap (λ m. set m l.k 0) l.invariant.2 ∙ fill_more l.k 0 _ (omega arith)))  -- loop-again
-    (λ c. c.before.loop.invariant.1)  -- same-length
-    (λ c. let l = c.before.loop in cleared_all _ l.marks l.k l.invariant.2 (omega arith)))  -- returns
+    (λ c. c.loop-k.invariant.1)  -- same-length
+    (λ c. let l = c.loop-k in cleared_all _ l.marks l.k l.invariant.2 (omega arith)))  -- returns

@@ -1,5 +1,5 @@
 -- `metadata::check` meets its contract: the numbers of the checked header. Assumes nothing.
-use Rattle.rules.proofs.Prelude.{sym, needs, refused}
+use Rattle.rules.proofs.Prelude.{sym, rules, refused}
 use Rattle.dictionary.specs.Dictionary.{verdict_within}
 use Rattle.metadata.proofs.Accepts.{accepts}
 use Rattle.metadata.proofs.Says.{checked_good}
@@ -11,6 +11,6 @@ unfolding verdict_within
 check_spec =
     tie.close
     (tie.spec
-    (λ c κs. search needs) (λ c. search needs) (λ c. search needs)
-    (λ c. sym (refused _ (rw c.before.head.given.1 at c.before.before.before.checked.ensures)))  -- returns
-    (λ c. sym ((accepts _ _ _).1 (checked_good _ _ (rw c.before.head2.given.1 at c.before.before.before.checked.ensures)))))  -- returns-2
+    (λ c κs. search rules) (λ c. search rules) (λ c. search rules)
+    (λ c. sym (refused _ (rw c.in-Refused.is at c.checked-head.ensures)))  -- returns
+    (λ c. sym ((accepts _ _ _).1 (checked_good _ _ (rw c.in-Good.is at c.checked-head.ensures)))))  -- returns-2

@@ -1,5 +1,5 @@
 -- `metadata::span_of` meets its contract: a checked dictionary's offsets do not fall and stay in the region. Assumes nothing.
-use Rattle.rules.proofs.Prelude.{arith, needs}
+use Rattle.rules.proofs.Prelude.{arith, rules}
 use Rattle.dictionary.proofs.Laws.{end_is, region_length, name_part}
 use Rattle.metadata.proofs.Means.{good}
 use Rattle.metadata.proofs.span_of.Statement.{statement}
@@ -9,8 +9,8 @@ pub span_of_spec : {M : Type 1} → statement M
 span_of_spec =
     tie.close
     (tie.spec
-    (λ c κs. search needs) (λ c. search needs) (λ c. search needs) (λ c κs. search needs) (λ c. search needs)
-    (λ c. let s = c.before.before.before in
+    (λ c κs. search rules) (λ c. search rules) (λ c. search rules) (λ c κs. search rules) (λ c. search rules)
+    (λ c. let s = c in
     let d = s.args.dict.now in
     let i = s.args.i in
     let header = s.requires.0.0 in
@@ -20,5 +20,5 @@ span_of_spec =
       end_is = omega arith;
       rises = omega arith;
       inside = omega (arith, end_is d, region_length d (omega arith));
-      name_is = rw (header.start_is, c.before.offset_at.ensures.0, c.offset-at2.ensures.0) (name_part d i (omega arith) r.stays);
+      name_is = rw (header.start_is, c.offset_at.ensures.0, c.offset_at-2.ensures.0) (name_part d i (omega arith) r.stays);
     }))  -- returns

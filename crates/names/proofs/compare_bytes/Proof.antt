@@ -9,10 +9,10 @@ use Rattle.names.proofs.Words.{by_less, by_greater, by_same, compare_first, comp
 use Rattle.names.proofs.compare_bytes.Statement.{statement}
 use Rattle.names.proofs.compare_bytes.Tie as tie
 
-abbrev invariant_loop : tie.invariant-loop
+abbrev invariant_loop : tie.invariant-loop-i
 invariant_loop a b shared i₀ i = (i ≤ shared) × (compare_of a b ≡ compare_of (drop i a) (drop i b))
 
-abbrev decreases_loop : tie.decreases-loop
+abbrev decreases_loop : tie.decreases-loop-i
 decreases_loop a b shared i₀ i = shared - i
 
 pub compare_bytes_spec : {M : Type 1} → statement M
@@ -23,13 +23,13 @@ compare_bytes_spec =
     decreases_loop
     (λ c. (omega arith, refl))  -- loop-holds
     (λ c. omega arith) (λ c. omega arith)
-    (λ c. let h = c.before.before.before.before.before in let a = h.before.before.before.args in
-    sym (h.loop.invariant.1 ∙ compare_first a.a.now a.b.now h.loop.i (omega arith) (omega arith) ∙ by_less _ _ _ (omega arith)))  -- returns
-    (λ c. let h = c.before.before.before.before.before in let a = h.before.before.before.args in
-    sym (h.loop.invariant.1 ∙ compare_first a.a.now a.b.now h.loop.i (omega arith) (omega arith) ∙ by_greater _ _ _ (omega arith)))  -- returns-2
+    (λ c. let h = c in let a = h.args in
+    sym (h.loop-i.invariant.1 ∙ compare_first a.a.now a.b.now h.loop-i.i (omega arith) (omega arith) ∙ by_less _ _ _ (omega arith)))  -- returns
+    (λ c. let h = c in let a = h.args in
+    sym (h.loop-i.invariant.1 ∙ compare_first a.a.now a.b.now h.loop-i.i (omega arith) (omega arith) ∙ by_greater _ _ _ (omega arith)))  -- returns-2
     (λ c. omega arith) (λ c. omega arith)
-    (λ c. let h = c.before.before.before.before in let a = h.before.before.before.args in
-    (omega arith, rw (add-one h.loop.i) (h.loop.invariant.1 ∙ compare_first a.a.now a.b.now h.loop.i (omega arith) (omega arith) ∙ by_same _ _ _ (omega arith))))  -- loop-again
+    (λ c. let h = c in let a = h.args in
+    (omega arith, rw (add-one h.loop-i.i) (h.loop-i.invariant.1 ∙ compare_first a.a.now a.b.now h.loop-i.i (omega arith) (omega arith) ∙ by_same _ _ _ (omega arith))))  -- loop-again
     (λ c κs. tt)
-    (λ c. let h = c.before.before in let a = h.before.before.before.args in
-    c.order-of.ensures ∙ sym (h.loop.invariant.1 ∙ compare_lengths a.a.now a.b.now h.loop.i (omega arith))))  -- returns-3
+    (λ c. let h = c in let a = h.args in
+    c.order_of.ensures ∙ sym (h.loop-i.invariant.1 ∙ compare_lengths a.a.now a.b.now h.loop-i.i (omega arith))))  -- returns-3

@@ -13,8 +13,8 @@ read_i64_spec =
     (tie.spec
     (λ c κs. search rules)  -- unpack-u64-requires
     (λ c. search rules)  -- cast-result
-    (λ c. at_least w64 _ _ c.before.unpack-u64.ensures (omega (arith, c.if1.true)))  -- returns
+    (λ c. at_least w64 _ _ c.unpack_u64-n.ensures (omega (arith, c.if-n-lt9223372036854775808.true)))  -- returns
     (λ c. omega arith)  -- sub-result
     (λ c. record { sfits = omega arith })  -- cast-result-2
-    (λ c. fits w64 _ _ c.before.unpack-u64.ensures _ refl (omega arith))  -- sub-result-2
-    (λ c. below w64 _ _ c.before.unpack-u64.ensures _ refl (omega arith) c.if1.false (omega arith)))  -- returns-2
+    (λ c. fits w64 _ _ c.unpack_u64-n.ensures _ refl (omega arith))  -- sub-result-2
+    (λ c. below w64 _ _ c.unpack_u64-n.ensures _ refl (omega arith) c.if-n-lt9223372036854775808.false (omega arith)))  -- returns-2

@@ -13,9 +13,9 @@ read_i8_spec =
     (tie.spec
     (λ c κs. search rules)  -- unpack-u32-requires
     (λ c. search rules)  -- cast-result
-    (λ c. at_least w8 _ _ c.before.unpack-u32.ensures.is (omega (arith, c.if1.true)))  -- returns
-    (λ c. omega (arith, c.before.unpack-u32.ensures.within))  -- sub-result
-    (λ c. record { sfits = omega (arith, c.before.unpack-u32.ensures.within) })  -- cast-result-2
-    (λ c. let e = c.before.unpack-u32.ensures in fits w8 _ _ e.is _ refl (omega (arith, e.within)))  -- sub-result-2
-    (λ c. let e = c.before.unpack-u32.ensures in
-    below w8 _ _ e.is _ refl (omega (arith, e.within)) c.if1.false (omega (arith, e.within))))  -- returns-2
+    (λ c. at_least w8 _ _ c.unpack_u32-n.ensures.is (omega (arith, c.if-n-lt128.true)))  -- returns
+    (λ c. omega (arith, c.unpack_u32-n.ensures.within))  -- sub-result
+    (λ c. record { sfits = omega (arith, c.unpack_u32-n.ensures.within) })  -- cast-result-2
+    (λ c. let e = c.unpack_u32-n.ensures in fits w8 _ _ e.is _ refl (omega (arith, e.within)))  -- sub-result-2
+    (λ c. let e = c.unpack_u32-n.ensures in
+    below w8 _ _ e.is _ refl (omega (arith, e.within)) c.if-n-lt128.false (omega (arith, e.within))))  -- returns-2

@@ -1,5 +1,5 @@
 -- `object::check_layer` meets its contract: the header's checks, then the others. Assumes nothing.
-use Rattle.rules.proofs.Prelude.{sym, ap, ◌∙◌, needs}
+use Rattle.rules.proofs.Prelude.{sym, ap, ◌∙◌, rules}
 use Rattle.layer.proofs.Laws.{by_head}
 use Rattle.columns.specs.Steps.{found_of}
 use Rattle.object.proofs.check_layer.Statement.{statement}
@@ -9,10 +9,10 @@ pub check_layer_spec : {M : Type 1} → statement M
 check_layer_spec =
     tie.close
     (tie.spec
-    (λ c κs. search needs) (λ c. search needs) (λ c. search needs)
-    (λ c κs. (c.before.before.before.before.before.before.requires, rw c.before.head2.given.1 at c.before.before.before.read-header.ensures))  -- check-rest-requires
-    (λ c. search needs) (λ c. search needs)
-    (λ c. by_head _ _ c.before.before.before.before.before.before.requires.1 (rw c.before.head.given.1 at c.before.before.before.read-header.ensures))  -- returns
-    (λ c. sym c.before.before.before.check-rest.ensures ∙ ap found_of c.before.rest.given.1)  -- returns-2
-    (λ c. let h = c.before.before.before.before in
-    (rw h.head2.given.1 at h.before.before.read-header.ensures, sym c.before.before.check-rest.ensures ∙ ap found_of c.enum_told.given.1)))  -- returns-3
+    (λ c κs. search rules) (λ c. search rules) (λ c. search rules)
+    (λ c κs. (c.requires, rw c.in-Good.is at c.read_header-head.ensures))  -- check-rest-requires
+    (λ c. search rules) (λ c. search rules)
+    (λ c. by_head _ _ c.requires.1 (rw c.in-Refused.is at c.read_header-head.ensures))  -- returns
+    (λ c. sym c.check_rest-rest.ensures ∙ ap found_of c.in-Refused-rest.is)  -- returns-2
+    (λ c. let h = c in
+    (rw h.in-Good.is at h.read_header-head.ensures, sym c.check_rest-rest.ensures ∙ ap found_of c.in-Pass.is)))  -- returns-3

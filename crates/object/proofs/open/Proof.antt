@@ -9,10 +9,10 @@ open_spec =
     tie.close
     (tie.spec
     (λ c κs. search rules) (λ c. search rules) (λ c. search rules)
-    (λ c κs. rw c.before.head2.given.1 at c.before.before.before.checked.ensures)  -- check-layer-requires
+    (λ c κs. rw c.in-Good.is at c.checked-head.ensures)  -- check-layer-requires
     (λ c. search rules) (λ c. search rules)
-    (λ c. by_dictionary _ _ (rw c.before.head.given.1 at c.before.before.before.checked.ensures))  -- returns
-    (λ c. rw c.before.layer.given.1 at c.before.before.before.check-layer.ensures)  -- returns-2
-    (λ c. let l = rw c.before.layer2.given.1 at c.before.before.before.check-layer.ensures in
-    let h = c.before.before.before.before.before in
-    record { over = rw h.head2.given.1 at h.before.before.checked.ensures; layered = l.0; passes = l.1 }))  -- returns-3
+    (λ c. by_dictionary _ _ (rw c.in-Refused.is at c.checked-head.ensures))  -- returns
+    (λ c. rw c.in-Refused-layer.is at c.check_layer-layer.ensures)  -- returns-2
+    (λ c. let l = rw c.in-Good-layer.is at c.check_layer-layer.ensures in
+    let h = c in
+    record { over = rw h.in-Good.is at h.checked-head.ensures; layered = l.0; passes = l.1 }))  -- returns-3

@@ -1,5 +1,5 @@
 -- `object_calls::lookup` meets its contract: 40, or the words of the answer. Assumes nothing.
-use Rattle.rules.proofs.Prelude.{ap, ◌∙◌, arith, needs}
+use Rattle.rules.proofs.Prelude.{ap, ◌∙◌, arith, rules}
 use Rattle.strip.specs.Shapes.{words_of, lookup_shape}
 use Rattle.strip.proofs.Laws.{no_strip, on_strip}
 use Rattle.object_calls.proofs.lookup.Statement.{statement}
@@ -10,7 +10,7 @@ lookup_spec =
     tie.close
     (tie.spec
     (λ c. no_strip _ _ (omega arith))  -- returns
-    (λ c κs. search needs) (λ c κs. search needs) (λ c κs. search needs) (λ c. search needs)
-    (λ c. let w = c.before.before in
-    let six = w.before.before in
-    on_strip _ _ (omega arith) (six.of-lookup.ensures ∙ ap (words_of lookup_shape) six.before.get.ensures) w.write.ensures))  -- returns-2
+    (λ c κs. search rules) (λ c κs. search rules) (λ c κs. search rules) (λ c. search rules)
+    (λ c. let w = c in
+    let six = w in
+    on_strip _ _ (omega arith) (six.of_lookup-words.ensures ∙ ap (words_of lookup_shape) six.get.ensures) w.write.ensures))  -- returns-2

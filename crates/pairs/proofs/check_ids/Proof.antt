@@ -6,10 +6,10 @@ use Rattle.pairs.proofs.Laws.{id_stops, id_passes, ids_passed, largest_none, lar
 use Rattle.pairs.proofs.check_ids.Statement.{statement}
 use Rattle.pairs.proofs.check_ids.Tie as tie
 
-abbrev invariant_loop : tie.invariant-loop
+abbrev invariant_loop : tie.invariant-loop-k
 invariant_loop dict words count most₀ k₀ most k = (k ≤ pairs words) × (first (each (id_rules dict words) k) ≡ pass) × (most ≡ largest words k)
 
-abbrev decreases_loop : tie.decreases-loop
+abbrev decreases_loop : tie.decreases-loop-k
 decreases_loop dict words count most₀ k₀ most k = pairs words - k
 
 pub check_ids_spec : {M : Type 1} → statement M
@@ -20,13 +20,13 @@ check_ids_spec =
     decreases_loop
     (λ c. (omega arith, each_none _, largest_none _))  -- loop-holds
     (λ c κs. omega arith)  -- id-at-requires
-    (λ c. let l = c.before.before.before.loop in id_stops _ _ l.k (omega arith) l.invariant.1 (omega arith))  -- returns
+    (λ c. let l = c.loop-k in id_stops _ _ l.k (omega arith) l.invariant.1 (omega arith))  -- returns
     (λ c κs. tt)  -- larger-requires
     (λ c. omega arith)  -- add-k
     (λ c. omega arith)  -- loop-less
-    (λ c. let l = c.before.before.before.before.loop in
-    let i = c.before.before.id-at.ensures.0 in
-    (omega arith, id_passes _ _ l.k l.invariant.1 (omega arith), c.larger.ensures ∙ largest_more _ l.k l.invariant.2 i))  -- loop-again
-    (λ c. let l = c.before.loop in
-    let e : l.k ≡ pairs c.before.before.before.before.args.words.now = omega arith in
+    (λ c. let l = c.loop-k in
+    let i = c.id_at-id.ensures.0 in
+    (omega arith, id_passes _ _ l.k l.invariant.1 (omega arith), c.larger-most.ensures ∙ largest_more _ l.k l.invariant.2 i))  -- loop-again
+    (λ c. let l = c.loop-k in
+    let e : l.k ≡ pairs c.args.words.now = omega arith in
     (ids_passed _ _ l.k l.invariant.1 e, rw e at l.invariant.2)))  -- returns-2

@@ -9,8 +9,8 @@ unfolding u32_max
 no_room_spec =
     tie.close
     (tie.spec
-    (λ c. let a = c.before.args in rw (lt-ltb a.words (3 * a.count) (omega arith)))  -- returns
-    (λ c. let a = c.before.before.args in
+    (λ c. let a = c.args in rw (lt-ltb a.words (3 * a.count) (omega arith)))  -- returns
+    (λ c. let a = c.args in
     rw (le-ltb a.words (3 * a.count) (omega arith), lt-ltb a.names a.total (omega arith)))  -- returns-2
-    (λ c. let a = c.before.before.args in
+    (λ c. let a = c.args in
     rw (le-ltb a.words (3 * a.count) (omega arith), le-ltb a.names a.total (omega arith))))  -- returns-3

@@ -9,6 +9,6 @@ pub first_byte_spec : {M : Type 1} → statement M
 first_byte_spec =
     tie.close
     (tie.spec
-    (λ c. omega (arith, c.before.before.requires))  -- shared-slice-read-result
-    (λ c. let x = c.before.before.args in sym (part_first x.whole.now x.a x.e (omega arith)))  -- returns
-    (λ c. let x = c.before.args in no_byte x.whole.now x.a x.e (omega (arith, c.before.requires))))  -- returns-2
+    (λ c. omega (arith, c.requires))  -- shared-slice-read-result
+    (λ c. let x = c.args in sym (part_first x.whole.now x.a x.e (omega arith)))  -- returns
+    (λ c. let x = c.args in no_byte x.whole.now x.a x.e (omega (arith, c.requires))))  -- returns-2

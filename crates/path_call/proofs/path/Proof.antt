@@ -1,5 +1,5 @@
 -- `path_call::path` meets its contract: 40, or the words of the answer and the steps in both buffers. Assumes nothing.
-use Rattle.rules.proofs.Prelude.{ap, ◌∙◌, arith, needs}
+use Rattle.rules.proofs.Prelude.{ap, ◌∙◌, arith, rules}
 use Rattle.strip.specs.Shapes.{words_of, lookup_shape}
 use Rattle.strip.proofs.Laws.{no_strip, on_strip, not_filled, is_filled}
 use Rattle.path_call.proofs.path.Statement.{statement}
@@ -11,14 +11,14 @@ path_spec =
     (tie.spec
     (λ c. record {
       strip_left = no_strip _ _ (omega arith);
-      names_stay = not_filled _ _ _ (omega arith);
+      names_left = not_filled _ _ _ (omega arith);
       words_left = not_filled _ _ _ (omega arith);
     })  -- returns
-    (λ c κs. search needs) (λ c κs. search needs) (λ c κs. search needs) (λ c. search needs) (λ c. search needs) (λ c. search needs)
-    (λ c. let call = c.before.before.before.before.before.before.before.before.before in
+    (λ c κs. search rules) (λ c κs. search rules) (λ c κs. search rules) (λ c. search rules) (λ c. search rules) (λ c. search rules)
+    (λ c. let call = c in
     let answers = call.get.ensures in
     record {
-      strip_left = on_strip _ _ (omega arith) (c.before.before.before.before.of-asked.ensures ∙ ap (words_of lookup_shape) answers.says) c.before.before.write.ensures;
-      names_stay = is_filled _ _ _ (omega arith) answers.names_stay;
+      strip_left = on_strip _ _ (omega arith) (c.of_asked-six.ensures ∙ ap (words_of lookup_shape) answers.says) c.write.ensures;
+      names_left = is_filled _ _ _ (omega arith) answers.names_left;
       words_left = is_filled _ _ _ (omega arith) answers.words_left;
     }))  -- returns-2

@@ -7,10 +7,10 @@ use Rattle.plain.proofs.Laws.{text_run}
 use Rattle.plain.proofs.strides.Statement.{statement}
 use Rattle.plain.proofs.strides.Tie as tie
 
-abbrev invariant_loop : tie.invariant-loop
+abbrev invariant_loop : tie.invariant-loop-at
 invariant_loop s at₀ at = Reached s at
 
-abbrev decreases_loop : tie.decreases-loop
+abbrev decreases_loop : tie.decreases-loop-at
 decreases_loop s at₀ at = length s - at
 
 pub strides_spec : {M : Type 1} → statement M
@@ -21,12 +21,12 @@ strides_spec =
     decreases_loop
     (λ c. (omega arith, omega arith))  -- loop-holds
     (λ c. omega arith) (λ c κs. omega arith)
-    (λ c. c.before.before.before.loop.invariant)  -- returns
+    (λ c. c.loop-at.invariant)  -- returns
     (λ c. omega arith) (λ c. omega arith)
-    (λ c. let h = c.before.before.before in let s = h.before.before.args.s.now in let at = h.loop.at in
-    text_run s at _ h.loop.invariant (omega arith) (omega arith) (λ k p q. omega (arith, c.before.largest.ensures k p (omega arith))))  -- loop-again
-    (λ c. c.before.before.loop.invariant)  -- returns-2
+    (λ c. let h = c in let s = h.args.s.now in let at = h.loop-at.at in
+    text_run s at _ h.loop-at.invariant (omega arith) (omega arith) (λ k p q. omega (arith, c.largest.ensures k p (omega arith))))  -- loop-again
+    (λ c. c.loop-at.invariant)  -- returns-2
     (λ c. omega arith) (λ c κs. omega arith)
-    (λ c. c.before.before.before.before.loop.invariant)  -- returns-3
-    (λ c. let h = c.before.before.before.before in let s = h.before.before.args.s.now in let at = h.loop.at in
-    text_run s at _ h.loop.invariant (omega arith) (omega arith) (λ k p q. omega (arith, c.before.largest2.ensures k (omega arith) (omega arith)))))  -- returns-4
+    (λ c. c.loop-at.invariant)  -- returns-3
+    (λ c. let h = c in let s = h.args.s.now in let at = h.loop-at.at in
+    text_run s at _ h.loop-at.invariant (omega arith) (omega arith) (λ k p q. omega (arith, c.largest-2.ensures k (omega arith) (omega arith)))))  -- returns-4

@@ -4,12 +4,12 @@ use Rattle.put.proofs.Laws.{copy_end, plain_turn}
 use Rattle.put.proofs.copy.Statement.{statement}
 use Rattle.put.proofs.copy.Tie as tie
 
-abbrev invariant_loop : tie.invariant-loop
+abbrev invariant_loop : tie.invariant-loop-i
 invariant_loop bytes from len room₀ to i₀ room i =
     (sets room₀ to (take len (drop from bytes)) ≡ sets room (to + i) (take (len - i) (drop (from + i) bytes)))
     × (i ≤ len) × (length room ≡ length room₀)
 
-abbrev decreases_loop : tie.decreases-loop
+abbrev decreases_loop : tie.decreases-loop-i
 decreases_loop bytes from len room₀ to i₀ room i = len - i
 
 pub copy_spec : {M : Type 1} → statement M
@@ -29,11 +29,11 @@ copy_spec =
     (λ c. omega arith)  -- slice-write-room
     (λ c. omega arith)  -- add-i
     (λ c. omega arith)  -- loop-less
-    (λ c. let l = c.before.before.loop in
-    let a = c.before.before.before.args in
+    (λ c. let l = c.loop-i in
+    let a = c.args in
     let turn = plain_turn l.room a.to l.i a.len a.bytes.now a.from (omega arith) (omega arith) in
     (l.invariant.0 ∙ turn, omega arith, simp length-set l.invariant.2))  -- loop-again
-    (λ c. c.before.loop.invariant.2)  -- same-length
-    (λ c. let l = c.before.loop in
-    let a = c.before.before.args in
+    (λ c. c.loop-i.invariant.2)  -- same-length
+    (λ c. let l = c.loop-i in
+    let a = c.args in
     sym (l.invariant.0 ∙ copy_end l.room a.to l.i a.len (drop (a.from + l.i) a.bytes.now) (omega arith))))  -- returns

@@ -8,6 +8,6 @@ of_leaf_refusal_spec =
     tie.close
     (tie.spec
     (λ c. search rules) (λ c κs. search rules) (λ c. search rules) (λ c κs. search rules) (λ c. search rules) (λ c κs. search rules)
-    (λ c. rw c.before.enum_told.given.1 c.refusal.ensures)
-    (λ c. rw c.before.enum-told2.given.1 c.refusal2.ensures)
-    (λ c. rw c.before.enum-told3.given.1 c.refusal3.ensures))
+    (λ c. rw c.in-Short.is c.refusal.ensures)
+    (λ c. rw c.in-Unknown.is c.refusal-in-Unknown.ensures)
+    (λ c. rw c.in-NotUtf8.is c.refusal-in-NotUtf8.ensures))

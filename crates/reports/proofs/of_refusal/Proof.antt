@@ -9,7 +9,7 @@ of_refusal_spec =
     (tie.spec
     (λ c. search rules) (λ c κs. search rules) (λ c. search rules) (λ c κs. search rules) (λ c. search rules) (λ c κs. search rules)
     (λ c. search rules) (λ c κs. search rules)
-    (λ c. rw c.before.before.r.given.1 c.of-object-refusal.ensures)
-    (λ c. rw c.before.before.r2.given.1 c.of-list-refusal.ensures)
-    (λ c. rw c.before.before.r3.given.1 c.of-leaf-refusal.ensures)
-    (λ c. rw c.before.enum_told.given.1 c.refusal.ensures))
+    (λ c. rw c.in-Layer.is c.of_object_refusal.ensures)
+    (λ c. rw c.in-List.is c.of_list_refusal.ensures)
+    (λ c. rw c.in-Leaf.is c.of_leaf_refusal.ensures)
+    (λ c. rw c.in-TooDeep.is c.refusal.ensures))

@@ -10,6 +10,6 @@ of_tree_spec =
     tie.close
     (tie.spec
     (λ c. search rules) (λ c κs. search rules) (λ c κs. search rules) (λ c. search rules) (λ c κs. search rules)
-    (λ c. let r = c.before in
-    rw r.before.before.v.given.1 (c.from.ensures ∙ ap (λ words. set words 3 r.before.before.v.given.0.1.0) r.of-refusal.ensures))
-    (λ c. rw c.before.before.v2.given.1 c.answer.ensures))
+    (λ c. let r = c in
+    rw r.in-Refused.is (c.from.ensures ∙ ap (λ words. set words 3 r.in-Refused.start) r.of_refusal.ensures))
+    (λ c. rw c.in-Accepted.is c.answer.ensures))

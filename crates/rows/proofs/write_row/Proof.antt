@@ -1,5 +1,5 @@
 -- `rows::write_row` meets its contract: five words, one after another. Assumes nothing.
-use Rattle.rules.proofs.Prelude.{◌≡◌, List, [], ◌∷◌, ℕ, suc, ◌+◌, arith, needs, length-set, set, sets}
+use Rattle.rules.proofs.Prelude.{◌≡◌, List, [], ◌∷◌, ℕ, suc, ◌+◌, arith, rules, length-set, set, sets}
 use Rattle.rows.proofs.write_row.Statement.{statement}
 use Rattle.rows.proofs.write_row.Tie as tie
 
@@ -15,13 +15,13 @@ pub write_row_spec : {M : Type 1} → statement M
 write_row_spec =
     tie.close
     (tie.spec
-    (λ c. search needs) (λ c. search needs) (λ c. search needs) (λ c. search needs)
+    (λ c. search rules) (λ c. search rules) (λ c. search rules) (λ c. search rules)
     (λ c. simp length-set (omega arith))  -- slice-write-words-2
-    (λ c. search needs) (λ c. search needs)
+    (λ c. search rules) (λ c. search rules)
     (λ c. simp length-set (omega arith))  -- slice-write-words-3
-    (λ c. search needs) (λ c. search needs)
+    (λ c. search rules) (λ c. search rules)
     (λ c. simp length-set (omega arith))  -- slice-write-words-4
-    (λ c. search needs) (λ c. search needs)
+    (λ c. search rules) (λ c. search rules)
     (λ c. simp length-set (omega arith))  -- slice-write-words-5
-    (λ c. search needs)
+    (λ c. search rules)
     (λ c. let r = c.args.row in five c.args.words.now c.args.at r.code r.field r.id r.start r.end))  -- returns

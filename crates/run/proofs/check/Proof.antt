@@ -1,44 +1,44 @@
 -- `run::check` meets its contract: the ends before k are good, and name k begins where the last of them is. Assumes nothing.
-use Rattle.rules.proofs.Prelude.{◌≡◌, refl, sym, ◌∙◌, List, ℕ, ◌+◌, ◌-◌, ◌≤◌, ◌<◌, arith, needs, length, first, each, pass, stop, each_none, each_more, each_stop, first_at, first_pass}
-use Rattle.run.specs.Run.{begin as beginOf, end as end_of, end_rules, checks}
+use Rattle.rules.proofs.Prelude.{◌≡◌, refl, sym, ◌∙◌, List, ℕ, ◌+◌, ◌-◌, ◌≤◌, ◌<◌, arith, rules, length, first, each, pass, stop, each_none, each_more, each_stop, first_at, first_pass}
+use Rattle.run.specs.Run.{begin as begin_of, end as end_of, end_rules, checks}
 use Rattle.run.proofs.Means.{next}
 use Rattle.run.proofs.check.Statement.{statement}
 use Rattle.run.proofs.check.Tie as tie
 
-abbrev invariant_loop : tie.invariant-loop
-invariant_loop run ends begin₀ k₀ begin k = (k ≤ length ends) × (begin ≡ beginOf ends k) × (first (each (end_rules run ends) k) ≡ pass)
+abbrev invariant_loop : tie.invariant-loop-k
+invariant_loop run ends begin₀ k₀ begin k = (k ≤ length ends) × (begin ≡ begin_of ends k) × (first (each (end_rules run ends) k) ≡ pass)
 
-abbrev decreases_loop : tie.decreases-loop
+abbrev decreases_loop : tie.decreases-loop-k
 decreases_loop run ends begin₀ k₀ begin k = length ends - k
 
 -- an end that falls or passes the run stops
-stopped : (run ends : List ℕ) (k : ℕ) → k < length ends → first (each (end_rules run ends) k) ≡ pass → (beginOf ends k ≤ end_of ends k → length run < end_of ends k)
+stopped : (run ends : List ℕ) (k : ℕ) → k < length ends → first (each (end_rules run ends) k) ≡ pass → (begin_of ends k ≤ end_of ends k → length run < end_of ends k)
     → stop 45 k ≡ checks run ends
 unfolding checks end_rules
 stopped run ends k p e h = sym (each_stop (end_rules run ends) k (length ends) e (first_at 0 (end_rules run ends k) h) p)
 
 -- one that does not is good, and the next name begins there
-goes_on : (run ends : List ℕ) (k : ℕ) → first (each (end_rules run ends) k) ≡ pass → beginOf ends k ≤ end_of ends k → end_of ends k ≤ length run
+goes_on : (run ends : List ℕ) (k : ℕ) → first (each (end_rules run ends) k) ≡ pass → begin_of ends k ≤ end_of ends k → end_of ends k ≤ length run
     → first (each (end_rules run ends) (k + 1)) ≡ pass
 unfolding end_rules
 goes_on run ends k e h i = each_more (end_rules run ends) k e ∙ first_pass _ ((h, i), tt)
 
 pub check_spec : {M : Type 1} → statement M
-unfolding beginOf checks
+unfolding begin_of checks
 check_spec =
     tie.close
     (tie.spec
     invariant_loop
     decreases_loop
     (λ c. (omega arith, refl, each_none _))  -- loop-holds
-    (λ c. search needs) (λ c. search needs)
-    (λ c. omega (arith, c.shared-slice-known.given c.before.before.loop.k))  -- cast-end
-    (λ c. let l = c.before.before.before.loop in stopped _ _ l.k (omega arith) l.invariant.2 (λ f. absurd (omega arith)))  -- returns
-    (λ c. let l = c.before.before.before.before.loop in stopped _ _ l.k (omega arith) l.invariant.2 (λ _. omega arith))  -- returns-2
+    (λ c. search rules) (λ c. search rules)
+    (λ c. omega (arith, c.shared_slice_known-1.given c.loop-k.k))  -- cast-end
+    (λ c. let l = c.loop-k in stopped _ _ l.k (omega arith) l.invariant.2 (λ f. absurd (omega arith)))  -- returns
+    (λ c. let l = c.loop-k in stopped _ _ l.k (omega arith) l.invariant.2 (λ _. omega arith))  -- returns-2
     (λ c. omega arith) (λ c. omega arith)
-    (λ c. let l = c.before.before.before.before.loop in
-    let a = c.before.before.before.before.before.args in
+    (λ c. let l = c.loop-k in
+    let a = c.args in
     (omega arith, next a.ends.now l.k, goes_on a.run.now a.ends.now l.k l.invariant.2 (omega arith) (omega arith)))  -- loop-again
-    (λ c. let l = c.before.loop in
-    let all : l.k ≡ length c.before.before.args.ends.now = omega arith in
+    (λ c. let l = c.loop-k in
+    let all : l.k ≡ length c.args.ends.now = omega arith in
     sym (rw all at l.invariant.2)))  -- returns-3

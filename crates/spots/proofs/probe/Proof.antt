@@ -1,5 +1,5 @@
 -- `spots::probe` meets its contract: the key is that of the field's name. Assumes nothing.
-use Rattle.rules.proofs.Prelude.{◌≡◌, List, ℕ, ◌+◌, ◌≤◌, ◌<◌, cond, dec_lt, arith, needs, add-zero, ltb, lt-ltb, le-ltb}
+use Rattle.rules.proofs.Prelude.{◌≡◌, List, ℕ, ◌+◌, ◌≤◌, ◌<◌, cond, dec_lt, arith, rules, add-zero, ltb, lt-ltb, le-ltb}
 use Rattle.keys.specs.Steps.{KeyOf}
 use Rattle.width.specs.Limits.{u32_max}
 use Rattle.layer.specs.Object.{field_name}
@@ -29,16 +29,16 @@ unfolding u32_max field_name
 probe_spec =
     tie.close
     (tie.spec
-    (λ c. omega arith) (λ c κs. search needs)
-    (λ c κs. let s = c.before.before.before in
+    (λ c. omega arith) (λ c κs. search rules)
+    (λ c κs. let s = c in
     (s.requires.0.over, omega (arith, entry_of s.args.dict.now s.args.object.now s.requires.0.passes _ s.requires.1)))  -- span-of-requires
-    (λ c κs. search needs)
+    (λ c κs. search rules)
     (λ c κs. (omega arith, c.key.ensures.small))  -- climb-requires
-    (λ c. let s = c.before.before.before.before.before.before in
+    (λ c. let s = c in
     let a = s.args in
     let up = within a.key a.step _ c.climb.ensures in
     let below : a.at + a.step < 4294967296 = omega (arith, s.requires.1, s.requires.0.layered.passes, count_below a.object.now) in
     omega (arith, up, below))  -- add-result
-    (λ c. let a = c.before.before.before.before.before.before.args in
-    let key_is = rw (c.before.before.Span-of.ensures.name_is, c.before.before.before.id-at.ensures.0) at c.before.key.ensures in
+    (λ c. let a = c.args in
+    let key_is = rw (c.span_of-name.ensures.name_is, c.id_at-id.ensures.0) at c.key.ensures in
     probed _ a.key a.at a.step _ key_is c.climb.ensures))  -- returns

@@ -1,6 +1,6 @@
 -- `spots::spots` meets its contract: the spots that were found before, or four of a search. Assumes nothing.
 use Rattle.rules.proofs.Prelude.{◌≡◌, List, ℕ, ◌+◌, ◌-◌, ◌≤◌, ◌<◌, cond, dec_lt, arith, lt-ltb, le-ltb, length, get_or, ltb}
-use Rattle.run.specs.Run.{begin as beginOf, name}
+use Rattle.run.specs.Run.{begin as begin_of, name}
 use Rattle.run.specs.Meaning.{GoodEnds}
 use Rattle.run.proofs.Means.{next}
 use Rattle.spots.proofs.spots.Statement.{statement}
@@ -23,12 +23,12 @@ module _ (names ends : List ℕ) (good : GoodEnds names ends) (j : ℕ) where
 
 -- the ends of two names, one after the other
 module _ (names ends : List ℕ) (good : GoodEnds names ends) (some : 0 < length ends) (j i : ℕ) (follows : i ≡ j + 1) where
-  after : {r t : ℕ} → EndAt ends j r → EndAt ends i t → (r ≤ t) × (t ≤ length names) × (i < length ends → (r ≡ beginOf ends i) × (t ≡ get_or ends i 0))
+  after : {r t : ℕ} → EndAt ends j r → EndAt ends i t → (r ≤ t) × (t ≤ length names) × (i < length ends → (r ≡ begin_of ends i) × (t ≡ get_or ends i 0))
   after {r} {t} e f = go (dec_lt i (length ends))
     where
-      go : Dec (i < length ends) → (r ≤ t) × (t ≤ length names) × (i < length ends → (r ≡ beginOf ends i) × (t ≡ get_or ends i 0))
+      go : Dec (i < length ends) → (r ≤ t) × (t ≤ length names) × (i < length ends → (r ≡ begin_of ends i) × (t ≡ get_or ends i 0))
       go (yes q) =
-          let begins : r ≡ beginOf ends i = rw follows (rw (next ends j) at (own_end names ends good j (omega arith) e)) in
+          let begins : r ≡ begin_of ends i = rw follows (rw (next ends j) at (own_end names ends good j (omega arith) e)) in
           let ends_is = own_end names ends good i q f in
           let h = good i q in (omega (arith, begins, ends_is, h.rises), omega (arith, ends_is, h.inside), λ _. (begins, ends_is))
       go (no q) =
@@ -41,64 +41,64 @@ unfolding name
 spots_spec =
     tie.close
     (tie.spec
-    (λ c. let s = c.before.before.before.before.before in let a = s.requires.3 in record {
+    (λ c. let s = c in let a = s.requires.3 in record {
       this = a.this (omega arith) s.requires.2.is_name;
       next = λ p. a.next (omega arith) p;
       third = λ p. a.third (omega arith);
       fourth = λ p. absurd (omega arith);
     })  -- returns
-    (λ c κs. omega (arith, c.before.before.before.before.before.requires.2.is_name))  -- end-at-requires
-    (λ c. let s = c.before.before.before.before.before.before in omega (arith, s.requires.2.is_name, s.well-formed))  -- add-end-at
-    (λ c κs. omega (arith, c.before.before.before.before.before.before.requires.2.is_name))  -- end-at-requires-2
-    (λ c. let s = c.before.before.before.before.before.before.before in omega (arith, s.requires.2.is_name, s.well-formed))  -- add-end-at-2
-    (λ c κs. omega (arith, c.before.before.before.before.before.before.before.requires.2.is_name))  -- end-at-requires-3
-    (λ c. let s = c.before.before.before.before.before.before.before.before in omega (arith, s.requires.2.is_name, s.well-formed))  -- add-end-at-3
-    (λ c κs. omega (arith, c.before.before.before.before.before.before.before.before.requires.2.is_name))  -- end-at-requires-4
-    (λ c. let s = c.before.before.before.before.before.before.before.before.before in
-    let p = own_end _ _ s.requires.1 _ s.requires.2.is_name c.before.before.before.end-at.ensures in let g = s.requires.1 _ s.requires.2.is_name in
+    (λ c κs. omega (arith, c.requires.2.is_name))  -- end-at-requires
+    (λ c. let s = c in omega (arith, s.requires.2.is_name, s.well_formed))  -- add-end-at
+    (λ c κs. omega (arith, c.requires.2.is_name))  -- end-at-requires-2
+    (λ c. let s = c in omega (arith, s.requires.2.is_name, s.well_formed))  -- add-end-at-2
+    (λ c κs. omega (arith, c.requires.2.is_name))  -- end-at-requires-3
+    (λ c. let s = c in omega (arith, s.requires.2.is_name, s.well_formed))  -- add-end-at-3
+    (λ c κs. omega (arith, c.requires.2.is_name))  -- end-at-requires-4
+    (λ c. let s = c in
+    let p = own_end _ _ s.requires.1 _ s.requires.2.is_name c.end_at-p.ensures in let g = s.requires.1 _ s.requires.2.is_name in
     omega (arith, p, g.rises, s.requires.2.begins))  -- sub-first
-    (λ c. let s = c.before.before.before.before.before.before.before.before.before in
-    let p = own_end _ _ s.requires.1 _ s.requires.2.is_name c.before.before.before.end-at.ensures in let g = s.requires.1 _ s.requires.2.is_name in
+    (λ c. let s = c in
+    let p = own_end _ _ s.requires.1 _ s.requires.2.is_name c.end_at-p.ensures in let g = s.requires.1 _ s.requires.2.is_name in
     omega (arith, p, g.rises, s.requires.2.begins))  -- part-first-start
-    (λ c. let s = c.before.before.before.before.before.before.before.before.before in
-    let p = own_end _ _ s.requires.1 _ s.requires.2.is_name c.before.before.before.end-at.ensures in let g = s.requires.1 _ s.requires.2.is_name in
+    (λ c. let s = c in
+    let p = own_end _ _ s.requires.1 _ s.requires.2.is_name c.end_at-p.ensures in let g = s.requires.1 _ s.requires.2.is_name in
     omega (arith, p, g.inside))  -- part-first-end
-    (λ c. let s = c.before.before.before.before.before.before.before.before.before.before in
-    let e = after _ _ s.requires.1 (omega (arith, s.requires.2.is_name)) _ _ (omega arith) c.before.before.before.before.end-at.ensures
-    c.before.before.before.end-at2.ensures in omega (arith, e.0))  -- sub-second
-    (λ c. let s = c.before.before.before.before.before.before.before.before.before.before in
-    let e = after _ _ s.requires.1 (omega (arith, s.requires.2.is_name)) _ _ (omega arith) c.before.before.before.before.end-at.ensures
-    c.before.before.before.end-at2.ensures in omega (arith, e.0))  -- part-second-start
-    (λ c. let s = c.before.before.before.before.before.before.before.before.before.before in
-    let e = after _ _ s.requires.1 (omega (arith, s.requires.2.is_name)) _ _ (omega arith) c.before.before.before.before.end-at.ensures
-    c.before.before.before.end-at2.ensures in omega (arith, e.1))  -- part-second-end
-    (λ c. let s = c.before.before.before.before.before.before.before.before.before.before.before in
-    let e = after _ _ s.requires.1 (omega (arith, s.requires.2.is_name)) _ _ (omega arith) c.before.before.before.before.end-at2.ensures
-    c.before.before.before.end-at3.ensures in omega (arith, e.0))  -- sub-third
-    (λ c. let s = c.before.before.before.before.before.before.before.before.before.before.before in
-    let e = after _ _ s.requires.1 (omega (arith, s.requires.2.is_name)) _ _ (omega arith) c.before.before.before.before.end-at2.ensures
-    c.before.before.before.end-at3.ensures in omega (arith, e.0))  -- part-third-start
-    (λ c. let s = c.before.before.before.before.before.before.before.before.before.before.before in
-    let e = after _ _ s.requires.1 (omega (arith, s.requires.2.is_name)) _ _ (omega arith) c.before.before.before.before.end-at2.ensures
-    c.before.before.before.end-at3.ensures in omega (arith, e.1))  -- part-third-end
-    (λ c. let s = c.before.before.before.before.before.before.before.before.before.before.before.before in
-    let e = after _ _ s.requires.1 (omega (arith, s.requires.2.is_name)) _ _ (omega arith) c.before.before.before.before.end-at3.ensures
-    c.before.before.before.end-at4.ensures in omega (arith, e.0))  -- sub-narrow
-    (λ c. let s = c.before.before.before.before.before.before.before.before.before.before.before.before in
-    let e = after _ _ s.requires.1 (omega (arith, s.requires.2.is_name)) _ _ (omega arith) c.before.before.before.before.end-at3.ensures
-    c.before.before.before.end-at4.ensures in omega (arith, e.0))  -- part-narrow-start
-    (λ c. let s = c.before.before.before.before.before.before.before.before.before.before.before.before in
-    let e = after _ _ s.requires.1 (omega (arith, s.requires.2.is_name)) _ _ (omega arith) c.before.before.before.before.end-at3.ensures
-    c.before.before.before.end-at4.ensures in omega (arith, e.1))  -- part-narrow-end
-    (λ c κs. c.before.before.before.before.before.before.before.before.before.before.before.before.before.requires.0)  -- narrow-requires
-    (λ c. let s = c.before.before.before.before.before.before.before.before.before.before.before.before.before.before in
-    let p = own_end _ _ s.requires.1 _ s.requires.2.is_name c.before.before.before.before.before.before.before.before.end-at.ensures in
-    let q = after _ _ s.requires.1 (omega (arith, s.requires.2.is_name)) _ _ (omega arith) c.before.before.before.before.before.before.before.before.end-at.ensures
-    c.before.before.before.before.before.before.before.end-at2.ensures in
-    let r = after _ _ s.requires.1 (omega (arith, s.requires.2.is_name)) _ _ (omega arith) c.before.before.before.before.before.before.before.end-at2.ensures
-    c.before.before.before.before.before.before.end-at3.ensures in
-    let t = after _ _ s.requires.1 (omega (arith, s.requires.2.is_name)) _ _ (omega arith) c.before.before.before.before.before.before.end-at3.ensures
-    c.before.before.before.before.before.end-at4.ensures in
+    (λ c. let s = c in
+    let e = after _ _ s.requires.1 (omega (arith, s.requires.2.is_name)) _ _ (omega arith) c.end_at-p.ensures
+    c.end_at-q.ensures in omega (arith, e.0))  -- sub-second
+    (λ c. let s = c in
+    let e = after _ _ s.requires.1 (omega (arith, s.requires.2.is_name)) _ _ (omega arith) c.end_at-p.ensures
+    c.end_at-q.ensures in omega (arith, e.0))  -- part-second-start
+    (λ c. let s = c in
+    let e = after _ _ s.requires.1 (omega (arith, s.requires.2.is_name)) _ _ (omega arith) c.end_at-p.ensures
+    c.end_at-q.ensures in omega (arith, e.1))  -- part-second-end
+    (λ c. let s = c in
+    let e = after _ _ s.requires.1 (omega (arith, s.requires.2.is_name)) _ _ (omega arith) c.end_at-q.ensures
+    c.end_at-r.ensures in omega (arith, e.0))  -- sub-third
+    (λ c. let s = c in
+    let e = after _ _ s.requires.1 (omega (arith, s.requires.2.is_name)) _ _ (omega arith) c.end_at-q.ensures
+    c.end_at-r.ensures in omega (arith, e.0))  -- part-third-start
+    (λ c. let s = c in
+    let e = after _ _ s.requires.1 (omega (arith, s.requires.2.is_name)) _ _ (omega arith) c.end_at-q.ensures
+    c.end_at-r.ensures in omega (arith, e.1))  -- part-third-end
+    (λ c. let s = c in
+    let e = after _ _ s.requires.1 (omega (arith, s.requires.2.is_name)) _ _ (omega arith) c.end_at-r.ensures
+    c.end_at-s.ensures in omega (arith, e.0))  -- sub-narrow
+    (λ c. let s = c in
+    let e = after _ _ s.requires.1 (omega (arith, s.requires.2.is_name)) _ _ (omega arith) c.end_at-r.ensures
+    c.end_at-s.ensures in omega (arith, e.0))  -- part-narrow-start
+    (λ c. let s = c in
+    let e = after _ _ s.requires.1 (omega (arith, s.requires.2.is_name)) _ _ (omega arith) c.end_at-r.ensures
+    c.end_at-s.ensures in omega (arith, e.1))  -- part-narrow-end
+    (λ c κs. c.requires.0)  -- narrow-requires
+    (λ c. let s = c in
+    let p = own_end _ _ s.requires.1 _ s.requires.2.is_name c.end_at-p.ensures in
+    let q = after _ _ s.requires.1 (omega (arith, s.requires.2.is_name)) _ _ (omega arith) c.end_at-p.ensures
+    c.end_at-q.ensures in
+    let r = after _ _ s.requires.1 (omega (arith, s.requires.2.is_name)) _ _ (omega arith) c.end_at-q.ensures
+    c.end_at-r.ensures in
+    let t = after _ _ s.requires.1 (omega (arith, s.requires.2.is_name)) _ _ (omega arith) c.end_at-r.ensures
+    c.end_at-s.ensures in
     record {
       this = rw (s.requires.2.begins, p) at c.narrow.ensures.0;
       next = λ _ u. rw (← (q.2 u).0, ← (q.2 u).1) c.narrow.ensures.1;

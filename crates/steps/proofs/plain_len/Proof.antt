@@ -5,10 +5,10 @@ use Rattle.steps.proofs.Laws.{plain_end, plain_stop, plain_more}
 use Rattle.steps.proofs.plain_len.Statement.{statement}
 use Rattle.steps.proofs.plain_len.Tie as tie
 
-abbrev invariant_loop : tie.invariant-loop
+abbrev invariant_loop : tie.invariant-loop-at
 invariant_loop path from at₀ at = (plain (drop from path) ≡ (at - from) + plain (drop at path)) × (from ≤ at) × (at ≤ length path)
 
-abbrev decreases_loop : tie.decreases-loop
+abbrev decreases_loop : tie.decreases-loop-at
 decreases_loop path from at₀ at = length path - at
 
 pub plain_len_spec : {M : Type 1} → statement M
@@ -21,13 +21,13 @@ plain_len_spec =
     (λ c. omega arith)  -- shared-slice-read-is-end
     (λ c κs. tt)  -- is-end-requires
     (λ c. omega arith)  -- sub-result
-    (λ c. let end = sym c.before.is-end.ensures ∙ c.if1.true in
-    let stop = plain_stop c.before.before.before.before.before.before.args.path.now c.before.before.before.before.loop.at (omega arith) end in
+    (λ c. let end = sym c.is_end.ensures ∙ c.if-is_end.true in
+    let stop = plain_stop c.args.path.now c.loop-at.at (omega arith) end in
     (omega (arith, stop), omega arith))  -- returns
     (λ c. omega arith)  -- add-at
     (λ c. omega arith)  -- loop-less
-    (λ c. let end = sym c.before.is-end.ensures ∙ c.if1.false in
-    let more = plain_more c.before.before.before.before.before.before.args.path.now c.before.before.before.before.loop.at (omega arith) end in
+    (λ c. let end = sym c.is_end.ensures ∙ c.if-is_end.false in
+    let more = plain_more c.args.path.now c.loop-at.at (omega arith) end in
     (omega (arith, more), omega arith, omega arith))  -- loop-again
     (λ c. omega arith)  -- sub-result-2
-    (λ c. (omega (arith, plain_end c.before.before.before.args.path.now c.before.loop.at (omega arith)), omega arith)))  -- returns-2
+    (λ c. (omega (arith, plain_end c.args.path.now c.loop-at.at (omega arith)), omega arith)))  -- returns-2

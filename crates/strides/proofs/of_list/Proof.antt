@@ -1,5 +1,5 @@
 -- `strides::of_list` meets its contract: 53 stands for 22, and every other refusal for itself. Assumes nothing.
-use Rattle.rules.proofs.Prelude.{◌≡◌, refl, false, eqb, needs}
+use Rattle.rules.proofs.Prelude.{◌≡◌, refl, false, eqb, rules}
 use Rattle.list.specs.declared.Refusal.{Refusal}
 use Rattle.list.specs.declared.Refusal.TheVariants.{Short, Sum, Offset}
 use Rattle.list.specs.Answers.{refusal_number}
@@ -15,8 +15,8 @@ pub of_list_spec : {M : Type 1} → statement M
 of_list_spec =
     tie.close
     (tie.spec
-    (λ c. search needs) (λ c. search needs) (λ c. search needs) (λ c. search needs)
-    (λ c. rw c.enum_told.given.1)  -- returns
-    (λ c. rw c.enum-told2.given.1)  -- returns-2
-    (λ c. rw c.enum-told3.given.1)  -- returns-3
-    (λ c. rw (c.before.r.given.1, never_22 c.before.r.given.0.0)))  -- returns-4
+    (λ c. search rules) (λ c. search rules) (λ c. search rules) (λ c. search rules)
+    (λ c. rw c.in-TooLong.is)  -- returns
+    (λ c. rw c.in-Empty.is)  -- returns-2
+    (λ c. rw c.in-BasicType.is)  -- returns-3
+    (λ c. rw (c.in-List.is, never_22 c.in-List.l)))  -- returns-4

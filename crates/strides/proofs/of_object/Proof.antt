@@ -1,18 +1,18 @@
 -- `strides::of_object` meets its contract: 53 stands for 22, and every other refusal for itself. Assumes nothing.
-use Rattle.rules.proofs.Prelude.{◌≡◌, refl, false, [], ◌∷◌, eqb, needs}
+use Rattle.rules.proofs.Prelude.{◌≡◌, refl, false, [], ◌∷◌, eqb, rules}
 use types.Run.{OneOf, miss}
 use denote.Enum.Declared.{tag_of}
 use Rattle.layer.specs.contracts.Refusal.{the_type}
 use Rattle.dictionary.specs.declared.Refusal.{Refusal as OfDictionary}
 use Rattle.dictionary.specs.declared.Refusal.TheVariants as dictionary
-use Rattle.dictionary.specs.Answers.{refusal_number as dictionaryNumber}
+use Rattle.dictionary.specs.Answers.{refusal_number as dictionary_number}
 use Rattle.layer.specs.declared.Refusal.{Refusal as OfLayer}
 use Rattle.layer.specs.declared.Refusal.TheVariants as layer
 use Rattle.layer.specs.Answers.{refusal_number}
 use Rattle.strides.proofs.of_object.Statement.{statement}
 use Rattle.strides.proofs.of_object.Tie as tie
 
-never_22 : (r : OfDictionary) → eqb (dictionaryNumber r) 22 ≡ false
+never_22 : (r : OfDictionary) → eqb (dictionary_number r) 22 ≡ false
 never_22 dictionary.TooLong = refl
 never_22 dictionary.Empty = refl
 never_22 dictionary.Version = refl
@@ -41,6 +41,6 @@ pub of_object_spec : {M : Type 1} → statement M
 of_object_spec =
     tie.close
     (tie.spec
-    (λ c. search needs)
-    (λ c. rw c.enum_told.given.1)  -- returns
-    (λ c. rw (others c.before.args.r c.match.keys2)))  -- returns-2
+    (λ c. search rules)
+    (λ c. rw c.in-BasicType.is)  -- returns
+    (λ c. rw (others c.args.r c.in_default.in_default-own.keys2)))  -- returns-2

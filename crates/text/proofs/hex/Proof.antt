@@ -12,34 +12,33 @@ pub hex_spec : {M : Type 1} → statement M
 hex_spec =
     tie.close
     (tie.spec
-    (λ c. search rules)  -- slice-aggregate-same
     (λ c κs. search rules)  -- same-requires
     (λ c κs. search rules)  -- answer-requires
-    (λ c. rw (hex_dash _ _ (c.before.before.same.ensures.0 c.before.if1.true))
+    (λ c. rw (hex_dash _ _ (c.same.ensures.0 c.if-same.true))
     (record { fault_is = c.answer.ensures.0; len_is = c.answer.ensures.1; room_is = refl; fits = omega arith }))  -- returns
     (λ c κs. search rules)  -- answer-requires-2
-    (λ c. rw (hex_odd _ _ (no_way c.before.before.if1.false c.before.before.before.same.ensures.1) c.before.if2.true)
-    (record { fault_is = c.answer2.ensures.0; len_is = c.answer2.ensures.1; room_is = refl; fits = omega arith }))  -- returns-2
+    (λ c. rw (hex_odd _ _ (no_way c.if-same.false c.same.ensures.1) c.if-text-ne0.true)
+    (record { fault_is = c.answer-then-text-ne0.ensures.0; len_is = c.answer-then-text-ne0.ensures.1; room_is = refl; fits = omega arith }))  -- returns-2
     (λ c κs. search rules)  -- answer-requires-3
-    (λ c. rw (hex_long _ _ (no_way c.before.before.before.if1.false c.before.before.before.before.same.ensures.1) c.before.before.if2.false c.before.if3.true)
-    (record { fault_is = c.answer3.ensures.0; len_is = c.answer3.ensures.1; room_is = refl; fits = omega arith }))  -- returns-3
+    (λ c. rw (hex_long _ _ (no_way c.if-same.false c.same.ensures.1) c.if-text-ne0.false c.if-out-text.true)
+    (record { fault_is = c.answer-then-out-text.ensures.0; len_is = c.answer-then-out-text.ensures.1; room_is = refl; fits = omega arith }))  -- returns-3
     (λ c κs. search rules)  -- run-requires
     (λ c κs. search rules)  -- answer-requires-4
-    (λ c. let m = c.before.before.before in
-    rw (hex_bad _ _ (no_way m.before.before.if1.false m.before.before.before.same.ensures.1) m.before.if2.false m.if3.false (omega arith))
-    (record { fault_is = c.answer4.ensures.0; len_is = c.answer4.ensures.1; room_is = refl; fits = omega arith }))  -- returns-4
+    (λ c. let m = c in
+    rw (hex_bad _ _ (no_way m.if-same.false m.same.ensures.1) m.if-text-ne0.false m.if-out-text.false (omega arith))
+    (record { fault_is = c.answer-then-run-text.ensures.0; len_is = c.answer-then-run-text.ensures.1; room_is = refl; fits = omega arith }))  -- returns-4
     (λ c κs. search rules)  -- decode-requires
     (λ c κs. search rules)  -- answer-requires-5
     (λ c. search rules)  -- same-length
-    (λ c. let a = c.before.before.before.before.before.before.before.before.before.before.before.before.before.before.args in
+    (λ c. let a = c.args in
     let text = a.text.now in
     let room = a.out.now in
-    let d = c.before.before.before.decode.ensures in
-    let m = c.before.before.before.before.before.before.before in
-    rw (hex_good text (length room) (no_way m.before.before.if1.false m.before.before.before.same.ensures.1) m.before.if2.false m.if3.false (omega arith))
+    let d = c.decode.ensures in
+    let m = c in
+    rw (hex_good text (length room) (no_way m.if-same.false m.same.ensures.1) m.if-text-ne0.false m.if-out-text.false (omega arith))
     (record {
-      fault_is = c.answer5.ensures.0;
-      len_is = c.answer5.ensures.1 ∙ d.0;
+      fault_is = c.answer-2.ensures.0;
+      len_is = c.answer-2.ensures.1 ∙ d.0;
       room_is = d.1 ∙ at_start (pairs text) room (omega (arith, pairs_length text));
       fits = omega (arith, pairs_length text);
     })))  -- returns-5

@@ -9,6 +9,6 @@ unfolding is_blank
 is_blank_spec =
     tie.close
     (tie.spec
-    (λ c. rw (eq-eqb _ _ c.if1.true))  -- returns
-    (λ c. rw (ne_eqb _ _ c.before.if1.false, eq-eqb _ _ c.if2.true))  -- returns-2
-    (λ c. rw (ne_eqb _ _ c.before.if1.false, ne_eqb _ _ c.if2.false)))  -- returns-3
+    (λ c. rw (eq-eqb _ _ c.if-b-eq32.true))  -- returns
+    (λ c. rw (ne_eqb _ _ c.if-b-eq32.false, eq-eqb _ _ c.if-b-eq9.true))  -- returns-2
+    (λ c. rw (ne_eqb _ _ c.if-b-eq32.false, ne_eqb _ _ c.if-b-eq9.false)))  -- returns-3

@@ -11,4 +11,4 @@ starts_at_spec =
     (λ c. omega arith)  -- shared-slice-read-if2
     (λ c _ inside cont. omega arith)  -- returns-2
     (λ c. omega arith)  -- shared-slice-read-result
-    (λ c above inside cont. let x = c.before.before.before.before.args in let z = ltb-true _ (get_or x.whole.now x.i 0) above in omega arith))  -- returns-3
+    (λ c above inside cont. let x = c.args in let z = ltb-true _ (get_or x.whole.now x.i 0) above in omega arith))  -- returns-3

@@ -1,5 +1,5 @@
 -- `tree_call::tree` meets its contract: 40, or the words of the answer and no marks. Assumes nothing.
-use Rattle.rules.proofs.Prelude.{ap, ◌∙◌, arith, needs}
+use Rattle.rules.proofs.Prelude.{ap, ◌∙◌, arith, rules}
 use Rattle.strip.specs.Shapes.{words_of, tree_shape}
 use Rattle.strip.proofs.Laws.{no_strip, on_strip, not_filled, is_filled}
 use Rattle.tree_call.proofs.tree.Statement.{statement}
@@ -10,12 +10,12 @@ tree_spec =
     tie.close
     (tie.spec
     (λ c. record { strip_left = no_strip _ _ (omega arith); words_left = not_filled _ _ _ (omega arith) })  -- returns
-    (λ c κs. search needs) (λ c κs. search needs) (λ c κs. search needs) (λ c. search needs) (λ c. search needs)
-    (λ c. let w = c.before.before in
-    let six = w.before.before in
-    let t = six.before.before.before in
-    let answers = t.check-with.ensures in
+    (λ c κs. search rules) (λ c κs. search rules) (λ c κs. search rules) (λ c. search rules) (λ c. search rules)
+    (λ c. let w = c in
+    let six = w in
+    let t = six in
+    let answers = t.check_with.ensures in
     record {
-      strip_left = on_strip _ _ (omega arith) (six.of_Tree.ensures ∙ ap (words_of tree_shape) answers.answers) w.write.ensures;
+      strip_left = on_strip _ _ (omega arith) (six.of_tree-words.ensures ∙ ap (words_of tree_shape) answers.answers) w.write.ensures;
       words_left = is_filled _ _ _ (omega arith) answers.leaves;
     }))  -- returns-2

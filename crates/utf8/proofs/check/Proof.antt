@@ -12,10 +12,10 @@ check_spec =
     tie.close
     (tie.spec
     (λ c κs. search rules)  -- valid-len-requires
-    (λ c. let v = c.before in let s = v.before.before.args.s.now in
-    sym (left_none s v.valid-len.result (sym v.valid-len.ensures) c.if1.true))  -- returns
+    (λ c. let v = c in let s = v.args.s.now in
+    sym (left_none s v.valid_len-at.result (sym v.valid_len-at.ensures) c.if-at-end.true))  -- returns
     (λ c κs. search rules)  -- begins-at-requires
-    (λ c. let v = c.before.before.before in let s = v.before.before.args.s.now in
-    sym (left_cut s v.valid-len.result (sym v.valid-len.ensures) (sym c.before.begins-at.ensures ∙ c.if2.true)))  -- returns-2
-    (λ c. let v = c.before.before.before in let s = v.before.before.args.s.now in
-    sym (left_broken s v.valid-len.result (sym v.valid-len.ensures) (sym c.before.begins-at.ensures ∙ c.if2.false) (omega (arith, text_le s)))))  -- returns-3
+    (λ c. let v = c in let s = v.args.s.now in
+    sym (left_cut s v.valid_len-at.result (sym v.valid_len-at.ensures) (sym c.begins_at.ensures ∙ c.if-begins_at.true)))  -- returns-2
+    (λ c. let v = c in let s = v.args.s.now in
+    sym (left_broken s v.valid_len-at.result (sym v.valid_len-at.ensures) (sym c.begins_at.ensures ∙ c.if-begins_at.false) (omega (arith, text_le s)))))  -- returns-3

@@ -6,10 +6,10 @@ use Rattle.utf8.proofs.Local.{right_start}
 use Rattle.utf8.proofs.last_start.Statement.{statement}
 use Rattle.utf8.proofs.last_start.Tie as tie
 
-abbrev invariant_loop : tie.invariant-loop
+abbrev invariant_loop : tie.invariant-loop-at
 invariant_loop s end at₀ at = at ≤ end
 
-abbrev decreases_loop : tie.decreases-loop
+abbrev decreases_loop : tie.decreases-loop-at
 decreases_loop s end at₀ at = at
 
 pub last_start_spec : {M : Type 1} → statement M
@@ -19,10 +19,10 @@ last_start_spec =
     invariant_loop
     decreases_loop
     (λ c. omega arith) (λ c. omega arith) (λ c. omega arith)
-    (λ c. let h = c.before.before.before in let p = h.before.requires in
-    right_start h.before.args.s.now (h.loop.at - 1) (omega arith) (λ k u v. p.0 k u (omega arith)) (λ t. omega (arith, t)))  -- returns
+    (λ c. let h = c in let p = h.requires in
+    right_start h.args.s.now (h.loop-at.at - 1) (omega arith) (λ k u v. p.0 k u (omega arith)) (λ t. omega (arith, t)))  -- returns
     (λ c. omega arith)
-    (λ c. let h = c.before.before.before.before.before in let p = h.before.requires in
-    right_start h.before.args.s.now (h.loop.at - 1) (omega arith) (λ k u v. p.0 k u (omega arith)) (λ t. omega (arith, t)))  -- returns-2
+    (λ c. let h = c in let p = h.requires in
+    right_start h.args.s.now (h.loop-at.at - 1) (omega arith) (λ k u v. p.0 k u (omega arith)) (λ t. omega (arith, t)))  -- returns-2
     (λ c. omega arith) (λ c. omega arith)
-    (λ c. let e : c.before.loop.at ≡ 0 = omega arith in rw e (omega arith, omega arith)))  -- returns-3
+    (λ c. let e : c.loop-at.at ≡ 0 = omega arith in rw e (omega arith, omega arith)))  -- returns-3

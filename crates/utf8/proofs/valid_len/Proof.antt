@@ -10,18 +10,18 @@ use Rattle.utf8.proofs.Laws.{text_stop}
 use Rattle.utf8.proofs.valid_len.Statement.{statement}
 use Rattle.utf8.proofs.valid_len.Tie as tie
 
-abbrev invariant_loop : tie.invariant-loop
+abbrev invariant_loop : tie.invariant-loop-at
 invariant_loop s at₀ at = Reached s at
 
-abbrev decreases_loop : tie.decreases-loop
+abbrev decreases_loop : tie.decreases-loop-at
 decreases_loop s at₀ at = length s - at
 
 -- a character was found: the loop comes to its end
-went : (c : tie.Else1 invariant_loop decreases_loop)
-    → Reached c.before.before.before.before.before.before.args.s.now (c.before.before.before.loop.at + c.before.char-at.result)
+went : (c : tie.Else-n-eq0 invariant_loop decreases_loop)
+    → Reached c.args.s.now (c.loop-at.at + c.char_at-n.result)
 went c =
-    let h = c.before.before.before in
-    text_go h.before.before.before.args.s.now h.loop.at c.before.char-at.result h.loop.invariant c.before.char-at.ensures c.if1.false
+    let h = c in
+    text_go h.args.s.now h.loop-at.at c.char_at-n.result h.loop-at.invariant c.char_at-n.ensures (search rules)
 
 pub valid_len_spec : {M : Type 1} → statement M
 valid_len_spec =
@@ -30,11 +30,11 @@ valid_len_spec =
     invariant_loop
     decreases_loop
     (λ c κs. tt)
-    (λ c. c.begin.ensures)  -- loop-holds
+    (λ c. c.begin-at.ensures)  -- loop-holds
     (λ c κs. tt)
-    (λ c. let h = c.before.before.before in
-    text_stop h.before.before.before.args.s.now h.loop.at h.loop.invariant (sym c.before.char-at.ensures ∙ c.if1.true))  -- returns
+    (λ c. let h = c in
+    text_stop h.args.s.now h.loop-at.at h.loop-at.invariant (sym c.char_at-n.ensures ∙ search rules))  -- returns
     (λ c. omega (arith, went c)) (λ c. omega (arith, went c))
     went  -- loop-again
-    (λ c. let h = c.before in let s = h.before.before.before.args.s.now in
-    text_stop s h.loop.at h.loop.invariant (char_end h.loop.at s (omega arith))))  -- returns-2
+    (λ c. let h = c in let s = h.args.s.now in
+    text_stop s h.loop-at.at h.loop-at.invariant (char_end h.loop-at.at s (omega arith))))  -- returns-2

@@ -8,6 +8,6 @@ pub double_spec : {M : Type 1} → statement M
 double_spec =
     tie.close
     (tie.spec
-    (λ c. number binary64 c.before.args.n c.if1.true)  -- float-from-bits-t4
-    (λ c. double_number _ c.if1.true)  -- returns
-    (λ c. double_nan _ c.if1.false))  -- returns-2
+    (λ c. number binary64 c.args.n c.if-n-le9218868437227405312.true)  -- float-from-bits-t4
+    (λ c. double_number _ c.if-n-le9218868437227405312.true)  -- returns
+    (λ c. double_nan _ c.if-n-le9218868437227405312.false))  -- returns-2

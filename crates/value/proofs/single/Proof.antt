@@ -8,6 +8,6 @@ pub single_spec : {M : Type 1} → statement M
 single_spec =
     tie.close
     (tie.spec
-    (λ c. number binary32 c.before.args.n c.if1.true)  -- float-from-bits-t4
-    (λ c. single_number _ c.if1.true)  -- returns
-    (λ c. single_nan _ c.if1.false))  -- returns-2
+    (λ c. number binary32 c.args.n (omega arith))  -- float-from-bits-t4
+    (λ c. single_number _ (omega arith))  -- returns
+    (λ c. single_nan _ (omega arith)))  -- returns-2

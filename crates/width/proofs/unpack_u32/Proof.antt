@@ -26,37 +26,37 @@ unpack_u32_spec =
     tie.close
     (tie.spec
     (λ c. search rules) (λ c κs. search rules)
-    (λ c. let a = c.before.before.before.before.args in
+    (λ c. let a = c.args in
     record {
-      is = rw c.if1.true (unpack_first a.at a.s.now c.before.wide.ensures.0);
+      is = rw c.if-width-eq1.true (unpack_first a.at a.s.now c.wide-one.ensures.0);
       fits = omega arith;
-      within = rw c.if1.true (omega arith);
+      within = rw c.if-width-eq1.true (omega arith);
     })  -- returns
     (λ c. search rules) (λ c. search rules) (λ c κs. search rules) (λ c. search rules) (λ c. search rules)
-    (λ c. let c1 = c.before.before.before.before in
-    let a = c1.before.before.before.args in
+    (λ c. let c1 = c in
+    let a = c1.args in
     record {
-      is = rw c.if2.true (of_two a.at a.s.now c1.wide.ensures.0 c.before.wide2.ensures.0);
+      is = rw c.if-width-eq2.true (of_two a.at a.s.now c1.wide-one.ensures.0 c.wide.ensures.0);
       fits = omega arith;
-      within = rw c.if2.true (omega arith);
+      within = rw c.if-width-eq2.true (omega arith);
     })  -- returns-2
     (λ c. search rules) (λ c. search rules) (λ c κs. search rules) (λ c. search rules) (λ c. search rules)
-    (λ c. let c2 = c.before.before.before.before in
-    let c1 = c2.before.before.before in
-    let a = c1.before.before.before.args in
+    (λ c. let c2 = c in
+    let c1 = c2 in
+    let a = c1.args in
     record {
-      is = rw c.if3.true (of_three a.at a.s.now c1.wide.ensures.0 c2.wide2.ensures.0 c.before.wide3.ensures.0);
+      is = rw c.if-width-eq3.true (of_three a.at a.s.now c1.wide-one.ensures.0 c2.wide.ensures.0 c.wide-2.ensures.0);
       fits = omega arith;
-      within = rw c.if3.true (omega arith);
+      within = rw c.if-width-eq3.true (omega arith);
     })  -- returns-3
     (λ c. search rules) (λ c. search rules) (λ c κs. search rules) (λ c. search rules) (λ c. search rules)
-    (λ c. let c3 = c.before.before.before in
-    let c2 = c3.before.before.before in
-    let c1 = c2.before.before.before in
-    let a = c1.before.before.before.args in
+    (λ c. let c3 = c in
+    let c2 = c3 in
+    let c1 = c2 in
+    let a = c1.args in
     let w : a.width ≡ 4 = omega arith in
     record {
-      is = rw w (of_four a.at a.s.now c1.wide.ensures.0 c2.wide2.ensures.0 c3.wide3.ensures.0 c.wide4.ensures.0);
+      is = rw w (of_four a.at a.s.now c1.wide-one.ensures.0 c2.wide.ensures.0 c3.wide-2.ensures.0 c.wide-3.ensures.0);
       fits = omega arith;
       within = rw w (omega arith);
     }))  -- returns-4

@@ -13,5 +13,5 @@ unpack_u64_spec =
     (λ c κs. search rules)  -- unpack-u32-requires-2
     (λ c. search rules)  -- mul-result
     (λ c. search rules)  -- add-result
-    (λ c. let a = c.before.before.before.args in
-    unpack_above 4 4 a.at a.s.now c.before.unpack-u32.ensures.is c.unpack-u322.ensures.is))  -- returns
+    (λ c. let a = c.args in
+    unpack_above 4 4 a.at a.s.now c.unpack_u32-low.ensures.is c.unpack_u32-high.ensures.is))  -- returns

@@ -8,6 +8,6 @@ of_entry_spec =
     tie.close
     (tie.spec
     (λ c. search rules) (λ c κs. search rules) (λ c. search rules) (λ c κs. search rules) (λ c. search rules) (λ c κs. search rules)
-    (λ c. rw c.before.before.e.given.1 c.of-dictionary-refusal.ensures)
-    (λ c. rw c.before.enum_told.given.1 c.refusal.ensures)
-    (λ c. rw c.before.before.e2.given.1 c.answer.ensures))
+    (λ c. rw c.in-Refused.is c.of_dictionary_refusal.ensures)
+    (λ c. rw c.in-NoSuchEntry.is c.refusal.ensures)
+    (λ c. rw c.in-Named.is c.answer.ensures))

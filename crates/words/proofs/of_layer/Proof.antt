@@ -8,5 +8,5 @@ of_layer_spec =
     tie.close
     (tie.spec
     (λ c. search rules) (λ c κs. search rules) (λ c. search rules) (λ c κs. search rules)
-    (λ c. rw c.before.before.v.given.1 c.of-object-refusal.ensures)
-    (λ c. rw c.before.before.v2.given.1 c.answer.ensures))
+    (λ c. rw c.in-Refused.is c.of_object_refusal.ensures)
+    (λ c. rw c.in-Accepted.is c.answer.ensures))

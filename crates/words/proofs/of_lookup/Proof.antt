@@ -8,6 +8,6 @@ of_lookup_spec =
     tie.close
     (tie.spec
     (λ c. search rules) (λ c κs. search rules) (λ c. search rules) (λ c κs. search rules) (λ c. search rules) (λ c κs. search rules)
-    (λ c. rw c.before.before.l.given.1 c.of-object-refusal.ensures)
-    (λ c. rw c.before.enum_told.given.1 c.refusal.ensures)
-    (λ c. rw c.before.before.l2.given.1 c.answer.ensures))
+    (λ c. rw c.in-Refused.is c.of_object_refusal.ensures)
+    (λ c. rw c.in-Absent.is c.refusal.ensures)
+    (λ c. rw c.in-Found.is c.answer.ensures))

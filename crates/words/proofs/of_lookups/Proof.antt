@@ -9,7 +9,7 @@ of_lookups_spec =
     (tie.spec
     (λ c. search rules) (λ c κs. search rules) (λ c. search rules) (λ c κs. search rules) (λ c. search rules) (λ c κs. search rules)
     (λ c. search rules) (λ c κs. search rules)
-    (λ c. rw c.before.before.l.given.1 c.refusal.ensures)
-    (λ c. rw c.before.before.l2.given.1 c.of-object-refusal.ensures)
-    (λ c. rw c.before.enum_told.given.1 c.refusal2.ensures)
-    (λ c. rw c.before.before.l3.given.1 c.answer.ensures))
+    (λ c. rw c.in-BadEnd.is c.refusal.ensures)
+    (λ c. rw c.in-Refused.is c.of_object_refusal.ensures)
+    (λ c. rw c.in-NoRoom.is c.refusal-in-NoRoom.ensures)
+    (λ c. rw c.in-Answered.is c.answer.ensures))

@@ -1,5 +1,5 @@
 -- `write_object_call::write_object` meets its contract: 40, or the words of the answer and the room. Assumes nothing.
-use Rattle.rules.proofs.Prelude.{ap, ◌∙◌, arith, needs}
+use Rattle.rules.proofs.Prelude.{ap, ◌∙◌, arith, rules}
 use Rattle.strip.specs.Shapes.{words_of, layer_shape}
 use Rattle.strip.proofs.Laws.{no_strip, on_strip, not_filled, is_filled}
 use Rattle.write_object_call.proofs.write_object.Statement.{statement}
@@ -10,11 +10,11 @@ write_object_spec =
     tie.close
     (tie.spec
     (λ c. record { strip_left = no_strip _ _ (omega arith); words_left = not_filled _ _ _ (omega arith) })  -- returns
-    (λ c κs. search needs) (λ c κs. search needs) (λ c κs. search needs)
-    (λ c. search needs) (λ c. search needs) (λ c. search needs) (λ c. search needs)
-    (λ c. let call = c.before.before.before.before.before.before.before.before.before.before.before in
-    let answers = call.write-object.ensures in
+    (λ c κs. search rules) (λ c κs. search rules) (λ c κs. search rules)
+    (λ c. search rules) (λ c. search rules) (λ c. search rules) (λ c. search rules)
+    (λ c. let call = c in
+    let answers = call.write_object.ensures in
     record {
-      strip_left = on_strip _ _ (omega arith) (c.before.before.before.before.of-built.ensures ∙ ap (words_of layer_shape) answers.answer) c.before.before.write.ensures;
+      strip_left = on_strip _ _ (omega arith) (c.of_built-words.ensures ∙ ap (words_of layer_shape) answers.answer) c.write.ensures;
       words_left = is_filled _ _ _ (omega arith) answers.leaves;
     }))  -- returns-2

@@ -1,0 +1,5 @@
+pub mod Pieces
+pub mod Feed
+pub mod Promises
+pub mod Meaning
+pub mod Worked
