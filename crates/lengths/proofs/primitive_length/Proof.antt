@@ -1,5 +1,5 @@
 -- `lengths::primitive_length` meets its contract: the type, then the length that it holds, then the end. Assumes nothing.
-use Rattle.rules.proofs.Prelude.{◌∙◌, sym, add-zero, rules, false_true}
+use Rattle.rules.proofs.Prelude.{◌∙◌, sym, add-zero, arith, rules, false_true}
 use Rattle.lengths.specs.Lengths.{payload}
 use Rattle.lengths.proofs.Laws.{no_such_type, length_cut, to_its_end, held_some, held_none}
 use Rattle.lengths.proofs.primitive_length.Statement.{statement}

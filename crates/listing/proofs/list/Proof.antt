@@ -114,18 +114,17 @@ list_spec =
     record { answers = sym (refused _ e); leaves = rw e })  -- returns
     (λ c κs. search rules)  -- has-all-requires
     (λ c κs. search rules)  -- answer-requires
-    (λ c. let s = c in
+    (λ c. let b = c.before.before.before.before in
     let bad = sym c.has_all.ensures ∙ c.if-not-has_all.true in
-    refuses _ _ (words c.before.before.before.before) [] s.measure-measured.result _ (message c.before.before.before.before).passes (message c.before.before.before.before).layered s.measure-measured.ensures
-    c.answer.ensures bad)  -- returns-2
-    (λ c κs. let s = c in
+    refuses _ _ (words b) [] c.measure-measured.result _ (message b).passes (message b).layered c.measure-measured.ensures c.answer.ensures bad)  -- returns-2
+    (λ c κs. let b = c.before.before.before.before in
     let all = sym c.has_all.ensures ∙ c.if-not-has_all.false in
-    ((message c.before.before.before.before).layered, in_region _ _ (message c.before.before.before.before).passes, enough c.before.before.before.before all c.if-lacks_room.false))  -- write-rows-requires
+    ((message b).layered, in_region _ _ (message b).passes, enough b all c.if-lacks_room.false))  -- write-rows-requires
     (λ c κs. search rules)  -- answer-requires-2
     (λ c. let e = stops _ (rw c.in-Refused.is at c.open-opening.ensures) in
     record { answers = sym (refused _ e); leaves = rw e })  -- returns-3
     (λ c. search rules)  -- same-length
-    (λ c. let s = c in
+    (λ c. let b = c.before.before.before.before.before.before.before.before in
     let all = sym c.has_all.ensures ∙ c.if-not-has_all.false in
-    lists _ _ (words c.before.before.before.before.before.before.before.before) _ s.measure-measured.result _ (message c.before.before.before.before.before.before.before.before).passes (message c.before.before.before.before.before.before.before.before).layered s.measure-measured.ensures
-    c.answer-in-Open.ensures all (enough c.before.before.before.before.before.before.before.before all c.if-lacks_room.false) c.write_rows.ensures))  -- returns-4
+    lists _ _ (words b) _ c.measure-measured.result _ (message b).passes (message b).layered c.measure-measured.ensures
+    c.answer-in-Open.ensures all (enough b all c.if-lacks_room.false) c.write_rows.ensures))  -- returns-4

@@ -14,7 +14,7 @@ feed_spec =
     (λ c κs. search rules) (λ c. search rules) (λ c. search rules)
     (λ c. let a = c.args in
     let is = c.unpack_u32-code.ensures.is in
-    rw is (settled a.store.now a.piece.now a.strip.now (omega arith) (search rules)))  -- returns-2
+    rw is (settled a.store.now a.piece.now a.strip.now (omega arith) (λ e. omega (arith, is, e))))  -- returns-2
     (λ c κs. search rules) (λ c κs. search rules) (λ c κs. search rules) (λ c κs. search rules)
     (λ c. search rules) (λ c. search rules)
     (λ c. let call = c in
@@ -22,7 +22,6 @@ feed_spec =
     let a = read.args in
     let held = call.unpack_u32-held.ensures.is in
     let taken = call.receive.ensures in
-    let waits = rw read.unpack_u32-code.ensures.is at search rules in
-    fed a.store.now a.piece.now a.strip.now (omega arith) waits
+    fed a.store.now a.piece.now a.strip.now (omega arith) (omega (arith, read.unpack_u32-code.ensures.is))
     (on_strip _ _ (omega arith) (c.of_fed-words.ensures ∙ rw held at (ap (words_of dictionary_shape) taken.answers)) c.write.ensures)
     (rw held at taken.leaves)))  -- returns-3

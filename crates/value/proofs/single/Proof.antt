@@ -1,4 +1,5 @@
 -- `value::single` meets its contract: the comparison tells a NaN's bits. Assumes nothing.
+use native.Mathlib.Omega.{arith}
 use lib.Ieee.{binary32}
 use Rattle.value.proofs.Laws.{number, single_number, single_nan}
 use Rattle.value.proofs.single.Statement.{statement}
