@@ -64,7 +64,7 @@ fn too_long(to: &mut impl Write, path: &[u8]) -> io::Result<()> {
     tell_to(to, b"\n")
 }
 
-// As much of the file as there is room for. A read that fails, the first or a later one, leaves nothing of it.
+// As much of what can be read as there is room for. A read that fails, the first or a later one, is the answer, and what came before it is not counted.
 pub fn read(from: &mut impl Read, out: &mut [u8]) -> io::Result<usize>
     ensures { IfOk result (λ len. len ≤ length out.new) }
 {

@@ -20,7 +20,7 @@ pub enum Outcome {
 // many bytes a word of it may spell.
 pub fn write(rt: &impl Print, outcome: Outcome, words: &[u32], room: usize) -> io::Result<()> {
     match outcome {
-        Outcome::Answered(a) => { answers::write(rt, a) }
+        Outcome::Answered(a) => answers::write(rt, a),
         Outcome::Listed { answer, filled } => {
             answers::write(rt, answer)?;
             tell(rt, b" :")?;

@@ -1,12 +1,13 @@
 // A dictionary that comes in pieces: they are copied into a lent store until the verdict settles.
 #![tactic(auto)]
 
-ghost use Rattle.std.specs.Prelude.{◌≡◌, min};
+ghost use Rattle.std.specs.Prelude.{◌≡◌};
 ghost use Rattle.pieces.specs.Pieces.{room};
 ghost use Rattle.pieces.specs.Feed.{state_of};
 ghost use Rattle.pieces.specs.Promises.{BeginPromise, FeedPromise, ReceivePromise, JudgedPromise};
 
 use dictionary::LIMIT;
+use eights::least;
 
 // What goes in with a piece and comes back: so many bytes held, and more wanted; the settled answer; 44, more bytes have come than there is
 // room for. It remembers nothing else of the bytes, so that a state which somebody made up is answered by them alone.
@@ -22,12 +23,6 @@ pub fn begin() -> State
     ensures { BeginPromise result }
 {
     State::More(0)
-}
-
-fn least(a: usize, b: usize) -> usize
-    ensures { result ≡ min a b }
-{
-    if a < b { a } else { b }
 }
 
 // As many bytes as the store and the limit allow.

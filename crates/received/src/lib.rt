@@ -66,7 +66,7 @@ fn say(rt: &impl Print, a: Answer) -> io::Result<()> {
     }
 }
 
-// What is open as `input` is fed piece by piece, and its verdict said.
+// What `input` gives is fed piece by piece, and its verdict said.
 pub fn check(rt: &impl Print, input: &mut impl Read) -> io::Result<()> {
     match receive(input, &mut [0; CHUNK], &mut room::bytes()) {
         Ok(last) => say(rt, last),

@@ -37,9 +37,9 @@ pub fn bits_of(low: usize, high: usize) -> usize {
 fn read(rt: &impl Print, bytes: &[u8], a: Answer) -> io::Result<()> {
     let kind = a.number;
     match kind {
-        0 => { tell(rt, b"null") }
-        1 => { tell(rt, b"true") }
-        2 => { tell(rt, b"false") }
+        0 => tell(rt, b"null"),
+        1 => tell(rt, b"true"),
+        2 => tell(rt, b"false"),
         3..=7 | 14 => numbers::write(rt, kind, bits_of(a.start, a.end)),
         _ => kinds::write(rt, kind, part_of(bytes, a.start, a.end)),
     }

@@ -4,9 +4,8 @@
 ghost use Rattle.std.specs.Prelude.{◌≤◌, length, IfOk};
 ghost use Rattle.tally.specs.Counting.{More, Judged};
 
-use std::io::Read;
+use std::io;
 use std::rt::Files;
-use std::{fs, io, str};
 
 #[derive(Clone, Copy)]
 pub struct Tally {
