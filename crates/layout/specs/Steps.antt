@@ -1,12 +1,12 @@
 -- What the reader of a layout and its steps answer, in the words of Layout.antt. Assumes nothing.
-use Rattle.std.specs.Prelude.{◌≡◌, List, ℕ, ◌≤◌}
+use Rattle.std.specs.Prelude.{◌≡◌, List, ℕ, ◌≤◌, Result, Ok, Err}
 use Rattle.rules.specs.Rules.{first, Passed}
 use Rattle.rules.specs.Rules.Found.{stop}
 use Rattle.layout.specs.declared.Widths.{Widths}
 use Rattle.layout.specs.declared.Numbers.{Numbers}
 use Rattle.layout.specs.declared.Places.{Places}
-use Rattle.layout.specs.declared.Head.{Head}
-use Rattle.layout.specs.declared.Head.TheVariants as head
+use Rattle.layout.specs.declared.Flaw.{Flaw}
+use Rattle.layout.specs.declared.Flaw.TheVariants.{Cut, Sum, Longer}
 use Rattle.layout.specs.Layout.{count, offsets_start, start, end, rules}
 
 -- widths that a header byte can say
@@ -33,8 +33,8 @@ pub record NumbersOf (s : List ℕ) (w : Widths) (l : Numbers) : Type 0 where
   pub rises : l.start ≤ l.end
 
 -- each refusal is that of the table, whichever numbers it has
-abbrev pub HeadOf : List ℕ → Widths → Head → Type 0
-HeadOf s w head.Cut = (cut sum longer : ℕ) → first (rules cut sum longer w s) ≡ stop cut 0
-HeadOf s w head.Sum = (cut sum longer : ℕ) → first (rules cut sum longer w s) ≡ stop sum 0
-HeadOf s w head.Longer = (cut sum longer : ℕ) → first (rules cut sum longer w s) ≡ stop longer 0
-HeadOf s w (head.Good l) = NumbersOf s w l
+abbrev pub HeadOf : List ℕ → Widths → Result Numbers Flaw → Type 0
+HeadOf s w (Err Cut) = (cut sum longer : ℕ) → first (rules cut sum longer w s) ≡ stop cut 0
+HeadOf s w (Err Sum) = (cut sum longer : ℕ) → first (rules cut sum longer w s) ≡ stop sum 0
+HeadOf s w (Err Longer) = (cut sum longer : ℕ) → first (rules cut sum longer w s) ≡ stop longer 0
+HeadOf s w (Ok l) = NumbersOf s w l

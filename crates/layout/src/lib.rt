@@ -22,13 +22,12 @@ pub struct Numbers {
     pub end: usize,
 }
 
-// The header is cut; a sum is above the 32-bit range; the region is longer than the bytes; or none of these.
-#[derive(Drop)]
-pub enum Head {
+// Why there are no numbers: the header is cut; a sum is above the 32-bit range; or the region is longer than the bytes.
+#[derive(Clone, Copy)]
+pub enum Flaw {
     Cut,
     Sum,
     Longer,
-    Good(Numbers),
 }
 
 #[derive(Clone, Copy)]
@@ -62,32 +61,32 @@ fn end_of(s: &[u8], w: Widths, start: usize) -> usize
 }
 
 // The checks that every layout has to pass, and its numbers where they do.
-pub fn read(s: &[u8], w: Widths) -> Head
+pub fn read(s: &[u8], w: Widths) -> Result<Numbers, Flaw>
     requires { Few w }
     ensures { HeadOf s.now w result }
 {
     if s.len() < 1 + w.count {
-        return Head::Cut;
+        return Err(Flaw::Cut);
     }
     let places = places_of(s, w);
     if width::U32_MAX < places.offsets {
-        return Head::Sum;
+        return Err(Flaw::Sum);
     }
     let start = places.start;
     if width::U32_MAX < start {
-        return Head::Sum;
+        return Err(Flaw::Sum);
     }
     if s.len() < start {
-        return Head::Cut;
+        return Err(Flaw::Cut);
     }
     let end = end_of(s, w, start);
     if width::U32_MAX < end {
-        return Head::Sum;
+        return Err(Flaw::Sum);
     }
     if s.len() < end {
-        return Head::Longer;
+        return Err(Flaw::Longer);
     }
-    Head::Good(Numbers {
+    Ok(Numbers {
         count: places.count,
         offsets: places.offsets,
         start,

@@ -1,7 +1,7 @@
 -- `layout::offset_at` meets its contract: the header holds the offset. Assumes nothing.
 use Rattle.rules.proofs.Prelude.{◌∙◌, ◌+◌, ◌*◌, ◌≤◌, arith, length}
 use Rattle.layout.specs.Layout.{offset}
-use Rattle.layout.proofs.Laws.{offset_inside, start_before}
+use Rattle.layout.proofs.Laws.{offset_inside}
 use Rattle.layout.proofs.offset_at.Statement.{statement}
 use Rattle.layout.proofs.offset_at.Tie as tie
 
