@@ -1,3 +1,4 @@
 pub mod Laws
 pub mod Appended
 pub mod Pinned
+pub mod Results

@@ -1,6 +1,6 @@
 -- Bytes after a value's own length change nothing: its own bytes have the length that they have with any others after them. Of what has no own
 -- length, bytes added lift a cut header and "longer than the bytes", and nothing else. Assumes nothing.
-use Rattle.rules.proofs.Prelude.{◌≡◌, refl, sym, ap, ◌∙◌, Bool, true, false, cond, ◌||◌, List, [], ◌∷◌, ◌++◌, ℕ, ◌+◌, ◌≤◌, arith, eqb, length}
+use Rattle.rules.proofs.Prelude.{◌≡◌, refl, sym, ap, ◌∙◌, Bool, true, false, cond, ◌||◌, List, [], ◌∷◌, ◌++◌, ℕ, ◌≤◌, arith, eqb, length}
 use Rattle.rules.proofs.Prelude.{length-append, List·getD-append, drop, take, take-append-drop, get_or, Found, Kept, Stays, first, pass, stop}
 use Rattle.rules.proofs.Prelude.{kept, passed, first_pass, ◌&◌}
 use borrow.Author.Tests.{eqb-true}
@@ -11,8 +11,9 @@ use Rattle.layout.specs.Layout as layout
 use Rattle.layout.proofs.Appended as layout-appended
 use Rattle.encoding.specs.declared.Header.{Header}
 use Rattle.encoding.specs.declared.Header.TheVariants as header
-use Rattle.lengths.specs.declared.Length.{Length}
-use Rattle.lengths.specs.declared.Length.TheVariants.{Known, Cut, Sum, Unknown, Longer}
+use Rattle.lengths.specs.declared.Flaw.{Flaw}
+use Rattle.std.specs.Prelude.{Result, Ok, Err}
+use Rattle.lengths.specs.declared.Flaw.TheVariants.{Cut, Sum, Unknown, Longer}
 use Rattle.encoding.specs.Encoding.{header_of}
 use Rattle.lengths.specs.Lengths.{holds_length, held, bytes_by, length_rules, case_of, length_by, own_length}
 use Rattle.lengths.proofs.Laws.{by_passes, by_known, of_some, holds_four, bytes_some}
@@ -22,12 +23,12 @@ use Rattle.lengths.proofs.Means.{known}
 abbrev pub lifted : ℕ → Bool
 lifted c = eqb c 1 || eqb c 4
 
-abbrev pub Settled : Length → Type 0
-Settled (Known n) = Unit {0}
-Settled Cut = ⊥
-Settled Sum = Unit {0}
-Settled Unknown = Unit {0}
-Settled Longer = ⊥
+abbrev pub Settled : Result ℕ Flaw → Type 0
+Settled (Ok n) = Unit {0}
+Settled (Err Cut) = ⊥
+Settled (Err Sum) = Unit {0}
+Settled (Err Unknown) = Unit {0}
+Settled (Err Longer) = ⊥
 
 module _ (s u : List ℕ) where
   held_same : (t : ℕ) → (holds_length t ≡ true → 5 ≤ length s) → held t (s ++ u) ≡ held t s
@@ -103,7 +104,7 @@ appended [] u settled = absurd settled
 appended (b ∷ s) u settled = by_appended (b ∷ s) (header_of b) u settled
 
 -- BYTES TAKEN AWAY
-module _ (s : List ℕ) (n : ℕ) (e : own_length s ≡ Known n) where
+module _ (s : List ℕ) (n : ℕ) (e : own_length s ≡ Ok n) where
   -- a value has a byte at least, and its bytes are at hand
   pub some_bytes : 1 ≤ n
   some_bytes = let k = known s n e in rw k.1.bytes (bytes_some (header_of (get_or s 0 0)) s)
@@ -112,7 +113,7 @@ module _ (s : List ℕ) (n : ℕ) (e : own_length s ≡ Known n) where
   at_hand = (known s n e).1.there
 
   -- its own bytes have that length, whatever follows
-  pub own_bytes : own_length (take n s) ≡ Known n
+  pub own_bytes : own_length (take n s) ≡ Ok n
   own_bytes =
       let whole = take-append-drop n s in
       let long : length (take n s) ≡ n = length-take-le n s at_hand in
@@ -122,7 +123,7 @@ module _ (s : List ℕ) (n : ℕ) (e : own_length s ≡ Known n) where
       let through = by_passes h s (of_some s (omega (arith, at_hand)) ∙ e) in
       let shrunk = bytes_shrink (take n s) (drop n s) h (rw whole through.0) (rw whole (omega (arith, through.1))) in
       let size : bytes_by h (take n s) ≡ n = sym (rw whole at shrunk.1) ∙ through.1 in
-      sym (of_some (take n s) (omega arith)) ∙ rw (← same) (by_known h (take n s) shrunk.0 ∙ ap Known size)
+      sym (of_some (take n s) (omega arith)) ∙ rw (← same) (by_known h (take n s) shrunk.0 ∙ ap Ok size)
 
-  pub whatever_follows : (u : List ℕ) → own_length (take n s ++ u) ≡ Known n
+  pub whatever_follows : (u : List ℕ) → own_length (take n s ++ u) ≡ Ok n
   whatever_follows u = rw own_bytes at (appended (take n s) u (rw own_bytes tt))

@@ -3,7 +3,7 @@ use Rattle.rules.proofs.Prelude.{◌≡◌, refl, sym, ◌∙◌, Bool, true, fa
 use Rattle.rules.proofs.Laws.{neither}
 use Rattle.width.specs.Limits.{u32_max}
 use Rattle.encoding.specs.declared.Header.TheVariants as header
-use Rattle.lengths.specs.declared.Length.TheVariants.{Known}
+use Rattle.std.specs.Prelude.{Some, None, Ok}
 use Rattle.encoding.specs.Encoding.{header_of}
 use Rattle.lengths.specs.Lengths.{payload, payloads, holds_length, bytes_by, fixed_length, own_length}
 use Rattle.lengths.specs.Meaning.{Typed, Encoded}
@@ -12,18 +12,18 @@ use Rattle.lengths.proofs.Laws.{held_none}
 use Rattle.lengths.proofs.Means.{exactly_when}
 
 -- what such a type is
-pub record Fixed (t : ℕ) : Type 0 where
+pub record Fixed (t n : ℕ) : Type 0 where
   pub known : t < 21
   pub holds_none : holds_length t ≡ false
-  pub bytes : fixed_length t ≡ 1 + payload t
+  pub bytes : n ≡ 1 + payload t
 
-pub fixed : (t : ℕ) → 0 < fixed_length t → Fixed t
+pub fixed : (t n : ℕ) → fixed_length t ≡ Some n → Fixed t n
 unfolding fixed_length
-fixed t some = go (ltb 20 t || holds_length t) refl some
+fixed t n some = go (ltb 20 t || holds_length t) refl some
   where
-    go : (b : Bool) → (ltb 20 t || holds_length t) ≡ b → 0 < cond b 0 (1 + payload t) → Fixed t
-    go true e p = absurd (omega arith)
-    go false e p = let n = neither (ltb 20 t) (holds_length t) e in record { known = omega (arith, ltb-false 20 t n.0); holds_none = n.1; bytes = rw e }
+    go : (b : Bool) → (ltb 20 t || holds_length t) ≡ b → cond b None (Some (1 + payload t)) ≡ Some n → Fixed t n
+    go true e p = let z : ◌≡◌ {A = ℕ} 0 1 = cc in absurd (omega arith)
+    go false e p = let f = neither (ltb 20 t) (holds_length t) e in record { known = omega (arith, ltb-false 20 t f.0); holds_none = f.1; bytes = cc }
 
 -- at most 17 bytes follow the header byte
 abbrev Most : ℕ → List ℕ → Type 0
@@ -40,12 +40,12 @@ unfolding payload
 few t = most 17 payloads t (omega arith)
 
 -- THE LAW
-pub fixed_known : (s : List ℕ) (t : ℕ) → 1 ≤ length s → header_of (get_or s 0 0) ≡ header.Primitive t → 0 < fixed_length t → fixed_length t ≤ length s
-    → own_length s ≡ Known (fixed_length t)
+pub fixed_known : (s : List ℕ) (t n : ℕ) → 1 ≤ length s → header_of (get_or s 0 0) ≡ header.Primitive t → fixed_length t ≡ Some n → n ≤ length s
+    → own_length s ≡ Ok n
 unfolding bytes_by u32_max
-fixed_known s t some says more there =
-    let f = fixed t more in
+fixed_known s t n some says is there =
+    let f = fixed t n is in
     let typed : Typed t s = record { known = f.known; length_there = λ h. false_true (sym f.holds_none ∙ h) } in
     let none = held_none t s f.holds_none in
-    let encoded : Encoded (header.Primitive t) s (fixed_length t) = record { headed = typed; bytes = omega (arith, f.bytes, none); fits = omega (arith, f.bytes, few t); there = there } in
-    (exactly_when s (Known (fixed_length t))).1 (measured some (rw says encoded))
+    let encoded : Encoded (header.Primitive t) s n = record { headed = typed; bytes = omega (arith, f.bytes, none); fits = omega (arith, f.bytes, few t); there = there } in
+    (exactly_when s (Ok n)).1 (measured some (rw says encoded))

@@ -1,40 +1,38 @@
 -- The own length, by what the header byte says. Assumes nothing.
-use Rattle.rules.proofs.Prelude.{◌≡◌, refl, ◌∙◌, Bool, true, false, cond, List, [], ◌∷◌, ℕ, ◌+◌, ◌≤◌, ◌<◌, arith, eqb}
+use Rattle.rules.proofs.Prelude.{◌≡◌, refl, ◌∙◌, Bool, true, false, List, [], ◌∷◌, ℕ, ◌+◌, ◌≤◌, ◌<◌, arith, eqb}
 use Rattle.rules.proofs.Prelude.{length, drop, get_or, first, ◌<?◌, ◌≤?◌, ◌and◌, ◌⇒◌at◌, Found, pass, stop, first_at, first_pass, goes, ◌&◌, false_true, ◌||◌}
 use borrow.Author.Tests.{eqb-true}
 use Rattle.rules.proofs.Laws.{first_append}
 use Rattle.rules.specs.Rules.Test.{is}
 use Rattle.width.specs.Width.{le}
 use Rattle.layout.specs.declared.Widths.{Widths}
+use Rattle.layout.specs.declared.Flaw.{Flaw as LayoutFlaw}
+use Rattle.layout.specs.declared.Flaw.TheVariants as lower
+use Rattle.layout.specs.Steps.{HeadOf}
 use Rattle.layout.proofs.Laws.{count_before, offsets_before, start_before}
 use Rattle.encoding.specs.declared.Header.{Header}
 use Rattle.encoding.specs.declared.Header.TheVariants as header
 use Rattle.encoding.specs.Encoding.{header_of}
-use Rattle.lengths.specs.declared.Length.TheVariants.{Known, Cut, Sum, Unknown, Longer}
-use Rattle.lengths.specs.Lengths.{payloads, payload, holds_length, held, bytes_by, end_rules, length_rules, case_of, length_by, own_length}
+use Rattle.std.specs.Prelude.{Ok, Err}
+use Rattle.lengths.specs.declared.Flaw.TheVariants.{Cut, Unknown}
+use Rattle.lengths.specs.Lengths.{payloads, payload, holds_length, held, bytes_by, end_rules, length_rules, case_of, of_layout, length_by, own_length}
 use Rattle.lengths.specs.Steps.{sized}
 
 -- a length is known where the table passes, and nowhere else
-pub known_passes : (f : Found) {n m : ℕ} → case_of f n ≡ Known m → (f ≡ pass) × (n ≡ m)
+pub known_passes : (f : Found) {n m : ℕ} → case_of f n ≡ Ok m → (f ≡ pass) × (n ≡ m)
 unfolding case_of
 known_passes pass e = (refl, cc)
-known_passes (stop c p) {n} {m} e = go (eqb c 1) (eqb c 2) (eqb c 3) e
-  where
-    go : (u v w : Bool) → cond u Cut (cond v Sum (cond w Unknown Longer)) ≡ Known m → (stop c p ≡ pass) × (n ≡ m)
-    go true v w e = let z : ◌≡◌ {A = ℕ} 0 1 = cc in absurd (omega arith)
-    go false true w e = let z : ◌≡◌ {A = ℕ} 0 1 = cc in absurd (omega arith)
-    go false false true e = let z : ◌≡◌ {A = ℕ} 0 1 = cc in absurd (omega arith)
-    go false false false e = let z : ◌≡◌ {A = ℕ} 0 1 = cc in absurd (omega arith)
+known_passes (stop c p) e = let z : ◌≡◌ {A = ℕ} 0 1 = cc in absurd (omega arith)
 
-pub by_passes : (h : Header) (s : List ℕ) {n : ℕ} → length_by h s ≡ Known n → (first (length_rules h s) ≡ pass) × (bytes_by h s ≡ n)
+pub by_passes : (h : Header) (s : List ℕ) {n : ℕ} → length_by h s ≡ Ok n → (first (length_rules h s) ≡ pass) × (bytes_by h s ≡ n)
 unfolding length_by
 by_passes h s e = known_passes (first (length_rules h s)) e
 
-pub by_known : (h : Header) (s : List ℕ) → first (length_rules h s) ≡ pass → length_by h s ≡ Known (bytes_by h s)
+pub by_known : (h : Header) (s : List ℕ) → first (length_rules h s) ≡ pass → length_by h s ≡ Ok (bytes_by h s)
 unfolding length_by case_of
 by_known h s e = rw e
 
-pub of_none : (s : List ℕ) → length s < 1 → Cut ≡ own_length s
+pub of_none : (s : List ℕ) → length s < 1 → Err Cut ≡ own_length s
 unfolding own_length
 of_none [] p = refl
 of_none (b ∷ s) p = absurd (omega arith)
@@ -46,12 +44,12 @@ of_some (b ∷ s) p = refl
 
 -- a primitive
 module _ (t : ℕ) (s : List ℕ) where
-  pub no_such_type : 21 ≤ t → Unknown ≡ length_by (header.Primitive t) s
+  pub no_such_type : 21 ≤ t → Err Unknown ≡ length_by (header.Primitive t) s
   unfolding length_by length_rules case_of
   no_such_type h = rw (first_at 0 (length_rules (header.Primitive t) s) h)
 
   module _ (known : t < 21) where
-    pub length_cut : holds_length t ≡ true → length s < 5 → Cut ≡ length_by (header.Primitive t) s
+    pub length_cut : holds_length t ≡ true → length s < 5 → Err Cut ≡ length_by (header.Primitive t) s
     unfolding length_by length_rules case_of
     length_cut b h = rw (first_at 1 (length_rules (header.Primitive t) s) (known, (b, h)))
 
@@ -89,6 +87,13 @@ short_end n s = refl
 pub list_as_object : (w : Widths) (s : List ℕ) → length_by (header.Object w) s ≡ length_by (header.List w) s
 unfolding length_by length_rules bytes_by
 list_as_object w s = refl
+
+-- a layout's flaw is that of the object or list
+pub layout_flaw : (f : LayoutFlaw) (w : Widths) (s : List ℕ) → HeadOf s w (Err f) → Err (of_layout f) ≡ length_by (header.Object w) s
+unfolding length_by length_rules case_of
+layout_flaw lower.Cut w s h = rw (h 1 2 4)
+layout_flaw lower.Sum w s h = rw (h 1 2 4)
+layout_flaw lower.Longer w s h = rw (h 1 2 4)
 
 -- a value has a byte at least
 pub bytes_some : (h : Header) (s : List ℕ) → 1 ≤ bytes_by h s

@@ -7,10 +7,11 @@ use Rattle.layout.specs.declared.Widths.{Widths}
 use Rattle.layout.specs.Layout as layout
 use Rattle.encoding.specs.declared.Header.{Header}
 use Rattle.encoding.specs.declared.Header.TheVariants as header
-use Rattle.lengths.specs.declared.Length.{Length}
-use Rattle.lengths.specs.declared.Length.TheVariants.{Known, Cut, Sum, Unknown, Longer}
+use Rattle.lengths.specs.declared.Flaw.{Flaw}
+use Rattle.std.specs.Prelude.{Result, Ok, Err}
+use Rattle.lengths.specs.declared.Flaw.TheVariants.{Sum, Longer}
 use Rattle.encoding.specs.Encoding.{header_of}
-use Rattle.lengths.specs.Lengths.{bytes_by, length_rules, case_of, length_by, own_length, is_known, bytes_of}
+use Rattle.lengths.specs.Lengths.{bytes_by, length_rules, flaw_of, case_of, length_by, own_length, is_known, bytes_of}
 use Rattle.lengths.specs.Meaning.{Typed, Counted, Headed, Encoded, Laid, Lacks, Due}
 use Rattle.lengths.specs.Meaning.Laid.{as_object, as_list}
 use Rattle.lengths.specs.Meaning.Lacks.{no_such_type, length_cut, count_cut, offsets_sum, start_sum, offsets_cut, end_sum, end_past}
@@ -23,7 +24,7 @@ use Rattle.lengths.proofs.Laws.{by_passes, of_none, of_some}
 module _ (s : List ℕ) where
   -- what a row's number stands for is due
   abbrev Stops : Header → ℕ → ℕ → Type 0
-  Stops h c p = Lacks s h (case_of (stop c p) 0)
+  Stops h c p = Lacks s h (flaw_of c)
 
   abbrev Measured : Header → Type 0
   Measured h = Encoded h s (bytes_by h s)
@@ -57,7 +58,7 @@ module _ (s : List ℕ) where
   rules_mean (header.List w) = laid_means w (header.List w) as_list (λ c. c) refl
 
   -- ALL HEADERS: what is so of each case is so of the length
-  by_header : (h : Header) (P : Length → Type 0) → (Measured h → P (Known (bytes_by h s))) → ((r : Length) → Lacks s h r → P r) → P (length_by h s)
+  by_header : (h : Header) (P : Result ℕ Flaw → Type 0) → (Measured h → P (Ok (bytes_by h s))) → ((r : Flaw) → Lacks s h r → P (Err r)) → P (length_by h s)
   unfolding length_by case_of
   by_header h P known lacks = go (first (length_rules h s)) (rules_mean h)
     where
@@ -67,25 +68,25 @@ module _ (s : List ℕ) where
 
 -- AND BACK
 module _ (s : List ℕ) where
-  is_passed : (h : Header) (n : ℕ) → Encoded h s n → length_by h s ≡ Known n
+  is_passed : (h : Header) (n : ℕ) → Encoded h s n → length_by h s ≡ Ok n
   unfolding length_by length_rules case_of bytes_by
   is_passed (header.Primitive t) n e =
       let z = e.bytes in
-      rw (first_pass (length_rules (header.Primitive t) s) (e.headed.known & e.headed.length_there & omega arith & omega arith & tt)) (ap Known (sym z))
-  is_passed (header.ShortString k) n e = let z = e.bytes in rw (first_pass (length_rules (header.ShortString k) s) (omega arith)) (ap Known (sym z))
+      rw (first_pass (length_rules (header.Primitive t) s) (e.headed.known & e.headed.length_there & omega arith & omega arith & tt)) (ap Ok (sym z))
+  is_passed (header.ShortString k) n e = let z = e.bytes in rw (first_pass (length_rules (header.ShortString k) s) (omega arith)) (ap Ok (sym z))
   is_passed (header.Object w) n e =
-      let z = e.bytes in let h = e.headed in rw (first_pass (layout.rules 1 2 4 w s) (omega arith)) (ap Known (sym z))
+      let z = e.bytes in let h = e.headed in rw (first_pass (layout.rules 1 2 4 w s) (omega arith)) (ap Ok (sym z))
   is_passed (header.List w) n e =
-      let z = e.bytes in let h = e.headed in rw (first_pass (layout.rules 1 2 4 w s) (omega arith)) (ap Known (sym z))
+      let z = e.bytes in let h = e.headed in rw (first_pass (layout.rules 1 2 4 w s) (omega arith)) (ap Ok (sym z))
 
-  sum_passed : (h : Header) → Headed h s → u32_max < bytes_by h s → length_by h s ≡ Sum
+  sum_passed : (h : Header) → Headed h s → u32_max < bytes_by h s → length_by h s ≡ Err Sum
   unfolding length_by length_rules case_of bytes_by
   sum_passed (header.Primitive t) d p = rw (first_at 2 (length_rules (header.Primitive t) s) (d.known & d.length_there & p))
   sum_passed (header.ShortString k) d p = rw (first_at 0 (length_rules (header.ShortString k) s) p)
   sum_passed (header.Object w) d p = rw (first_at 4 (layout.rules 1 2 4 w s) (omega arith))
   sum_passed (header.List w) d p = rw (first_at 4 (layout.rules 1 2 4 w s) (omega arith))
 
-  bytes_passed : (h : Header) → Headed h s → bytes_by h s ≤ u32_max → length s < bytes_by h s → length_by h s ≡ Longer
+  bytes_passed : (h : Header) → Headed h s → bytes_by h s ≤ u32_max → length s < bytes_by h s → length_by h s ≡ Err Longer
   unfolding length_by length_rules case_of bytes_by
   bytes_passed (header.Primitive t) d q p = rw (first_at 3 (length_rules (header.Primitive t) s) (d.known & d.length_there & q & p))
   bytes_passed (header.ShortString k) d q p = rw (first_at 1 (length_rules (header.ShortString k) s) (q & p))
@@ -97,7 +98,7 @@ module _ (s : List ℕ) where
   laid_at c as_object e = rw e
   laid_at c as_list e = rw e
 
-  is_lacking : (h : Header) (r : Length) → Lacks s h r → length_by h s ≡ r
+  is_lacking : (h : Header) (f : Flaw) → Lacks s h f → length_by h s ≡ Err f
   unfolding case_of
   is_lacking h r (no_such_type t e p) = rw e (sym (laws.no_such_type t s p))
   is_lacking h r (length_cut t e known b p) = rw e (sym (laws.length_cut t s known b p))
@@ -119,16 +120,16 @@ module _ (s : List ℕ) where
           let some : 1 ≤ length s = omega arith in
           rw (← of_some s some) (by_header s (header_of (get_or s 0 0)) (Due s) (measured some) (λ r. none some))
 
-  is_due : (r : Length) → Due s r → own_length s ≡ r
+  is_due : (r : Result ℕ Flaw) → Due s r → own_length s ≡ r
   is_due r (no_bytes p) = sym (of_none s (omega arith))
   is_due r (measured {n = n} some e) = sym (of_some s some) ∙ is_passed s _ n e
-  is_due r (none some l) = sym (of_some s some) ∙ is_lacking s _ r l
+  is_due r (none some l) = sym (of_some s some) ∙ is_lacking s _ _ l
 
-  pub exactly_when : (r : Length) → (own_length s ≡ r) ↔ Due s r
+  pub exactly_when : (r : Result ℕ Flaw) → (own_length s ≡ r) ↔ Due s r
   exactly_when r = (λ e. rw e at due, is_due r)
 
   -- a length that is known: its rules hold, and it is one byte at least
-  pub known : (n : ℕ) → own_length s ≡ Known n → (1 ≤ length s) × Encoded (header_of (get_or s 0 0)) s n
+  pub known : (n : ℕ) → own_length s ≡ Ok n → (1 ≤ length s) × Encoded (header_of (get_or s 0 0)) s n
   known n e = go (dec_lt (length s) 1)
     where
       go : Dec (length s < 1) → (1 ≤ length s) × Encoded (header_of (get_or s 0 0)) s n
@@ -143,19 +144,13 @@ module _ (s : List ℕ) where
   pub bytes_at_hand : bytes_of (own_length s) ≤ length s
   bytes_at_hand = go (own_length s) refl
     where
-      go : (r : Length) → own_length s ≡ r → bytes_of r ≤ length s
-      go (Known n) e = (known s n e).1.there
-      go Cut e = omega arith
-      go Sum e = omega arith
-      go Unknown e = omega arith
-      go Longer e = omega arith
+      go : (r : Result ℕ Flaw) → own_length s ≡ r → bytes_of r ≤ length s
+      go (Ok n) e = (known s n e).1.there
+      go (Err f) e = omega arith
 
-  pub is_known_law : is_known (own_length s) ≡ true → own_length s ≡ Known (bytes_of (own_length s))
+  pub is_known_law : is_known (own_length s) ≡ true → own_length s ≡ Ok (bytes_of (own_length s))
   is_known_law b = go (own_length s) b
     where
-      go : (r : Length) → is_known r ≡ true → r ≡ Known (bytes_of r)
-      go (Known n) e = refl
-      go Cut e = false_true e
-      go Sum e = false_true e
-      go Unknown e = false_true e
-      go Longer e = false_true e
+      go : (r : Result ℕ Flaw) → is_known r ≡ true → r ≡ Ok (bytes_of r)
+      go (Ok n) e = refl
+      go (Err f) e = false_true e

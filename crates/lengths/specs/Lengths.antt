@@ -1,6 +1,6 @@
 -- A value by its first bytes: how long its own encoding is (document 02, f; VariantEncoding.md, "Value encoding"). s is the bytes that begin
 -- with the value; a byte that is not there reads as 0. Assumes nothing.
-use Rattle.std.specs.Prelude.{Bool, true, false, cond, ◌||◌, List, [], ◌∷◌, ℕ, ◌+◌, eqb, ltb, length, drop, get_or}
+use Rattle.std.specs.Prelude.{Bool, true, false, cond, ◌||◌, List, [], ◌∷◌, ℕ, ◌+◌, eqb, ltb, length, drop, get_or, Option, Some, None, Result, Ok, Err}
 use Rattle.width.specs.Width.{le}
 use Rattle.rules.specs.Rules.{Rule, Found, first}
 use Rattle.rules.specs.Rules.Found.{pass, stop}
@@ -8,11 +8,13 @@ use Rattle.rules.specs.Rules.Rule.{◌⇒◌at◌}
 use Rattle.rules.specs.Rules.Test.{◌<?◌, ◌≤?◌, is, ◌and◌}
 use Rattle.width.specs.Limits.{u32_max}
 use Rattle.layout.specs.Layout as layout
+use Rattle.layout.specs.declared.Flaw.{Flaw as LayoutFlaw}
+use Rattle.layout.specs.declared.Flaw.TheVariants as lower
 use Rattle.encoding.specs.declared.Header.{Header}
 use Rattle.encoding.specs.declared.Header.TheVariants as header
 use Rattle.encoding.specs.Encoding.{header_of}
-use Rattle.lengths.specs.declared.Length.{Length}
-use Rattle.lengths.specs.declared.Length.TheVariants.{Known, Cut, Sum, Unknown, Longer}
+use Rattle.lengths.specs.declared.Flaw.{Flaw}
+use Rattle.lengths.specs.declared.Flaw.TheVariants.{Cut, Sum, Unknown, Longer}
 
 -- PRIMITIVES
 
@@ -30,9 +32,9 @@ holds_length t = eqb t 15 || eqb t 16
 unfoldable pub held : ℕ → List ℕ → ℕ
 held t s = cond (holds_length t) (le 4 (drop 1 s)) 0
 
--- where the type alone says a primitive's bytes, so many; 0 of an unknown type, and of one that holds its length
-unfoldable pub fixed_length : ℕ → ℕ
-fixed_length t = cond (ltb 20 t || holds_length t) 0 (1 + payload t)
+-- where the type alone says a primitive's bytes, so many; an unknown type does not, nor does one that holds its length
+unfoldable pub fixed_length : ℕ → Option ℕ
+fixed_length t = cond (ltb 20 t || holds_length t) None (Some (1 + payload t))
 
 -- THE OWN LENGTH
 
@@ -59,28 +61,31 @@ length_rules (header.Object w) s = layout.rules 1 2 4 w s
 length_rules (header.List w) s = layout.rules 1 2 4 w s
 
 -- what a table comes to, by cases
-unfoldable pub case_of : Found → ℕ → Length
-case_of pass n = Known n
-case_of (stop c p) n = cond (eqb c 1) Cut (cond (eqb c 2) Sum (cond (eqb c 3) Unknown Longer))
+abbrev pub flaw_of : ℕ → Flaw
+flaw_of c = cond (eqb c 1) Cut (cond (eqb c 2) Sum (cond (eqb c 3) Unknown Longer))
 
-unfoldable pub length_by : Header → List ℕ → Length
+unfoldable pub case_of : Found → ℕ → Result ℕ Flaw
+case_of pass n = Ok n
+case_of (stop c p) n = Err (flaw_of c)
+
+-- a layout's flaw is the value's
+abbrev pub of_layout : LayoutFlaw → Flaw
+of_layout lower.Cut = Cut
+of_layout lower.Sum = Sum
+of_layout lower.Longer = Longer
+
+unfoldable pub length_by : Header → List ℕ → Result ℕ Flaw
 length_by h s = case_of (first (length_rules h s)) (bytes_by h s)
 
-unfoldable pub own_length : List ℕ → Length
-own_length [] = Cut
+unfoldable pub own_length : List ℕ → Result ℕ Flaw
+own_length [] = Err Cut
 own_length (b ∷ s) = length_by (header_of b) (b ∷ s)
 
 -- whether it is known, and its bytes: none of any other
-abbrev pub is_known : Length → Bool
-is_known (Known n) = true
-is_known Cut = false
-is_known Sum = false
-is_known Unknown = false
-is_known Longer = false
+abbrev pub is_known : Result ℕ Flaw → Bool
+is_known (Ok n) = true
+is_known (Err f) = false
 
-abbrev pub bytes_of : Length → ℕ
-bytes_of (Known n) = n
-bytes_of Cut = 0
-bytes_of Sum = 0
-bytes_of Unknown = 0
-bytes_of Longer = 0
+abbrev pub bytes_of : Result ℕ Flaw → ℕ
+bytes_of (Ok n) = n
+bytes_of (Err f) = 0

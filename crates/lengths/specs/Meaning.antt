@@ -1,13 +1,13 @@
 -- What an encoding is, in the words of document 02, f), and VariantEncoding.md: the rules that hold of a value with an own length, and when it
 -- has none. proofs/Means.antt shows that `own_length` of Lengths.antt says the same. Assumes nothing.
-use Rattle.std.specs.Prelude.{◌≡◌, true, List, ℕ, ◌+◌, ◌≤◌, ◌<◌, length, get_or}
+use Rattle.std.specs.Prelude.{◌≡◌, true, List, ℕ, ◌+◌, ◌≤◌, ◌<◌, length, get_or, Result, Ok, Err}
 use Rattle.width.specs.Limits.{u32_max}
 use Rattle.layout.specs.declared.Widths.{Widths}
 use Rattle.layout.specs.Layout as layout
 use Rattle.encoding.specs.declared.Header.{Header}
 use Rattle.encoding.specs.declared.Header.TheVariants as header
-use Rattle.lengths.specs.declared.Length.{Length}
-use Rattle.lengths.specs.declared.Length.TheVariants.{Known, Cut, Sum, Unknown, Longer}
+use Rattle.lengths.specs.declared.Flaw.{Flaw}
+use Rattle.lengths.specs.declared.Flaw.TheVariants.{Cut, Sum, Unknown, Longer}
 use Rattle.encoding.specs.Encoding.{header_of}
 use Rattle.lengths.specs.Lengths.{holds_length, bytes_by}
 
@@ -45,7 +45,7 @@ pub data Laid (w : Widths) : Header → Type 0 where
   as_object : Laid w (header.Object w)
   as_list : Laid w (header.List w)
 
-pub data Lacks (s : List ℕ) (h : Header) : Length → Type 0 where
+pub data Lacks (s : List ℕ) (h : Header) : Flaw → Type 0 where
   no_such_type : (t : ℕ) → h ≡ header.Primitive t → 21 ≤ t → Lacks s h Unknown
   length_cut : (t : ℕ) → h ≡ header.Primitive t → t < 21 → holds_length t ≡ true → length s < 5 → Lacks s h Cut
   count_cut : {w : Widths} → Laid w h → length s < 1 + w.count → Lacks s h Cut
@@ -57,7 +57,7 @@ pub data Lacks (s : List ℕ) (h : Header) : Length → Type 0 where
   end_past : Headed h s → bytes_by h s ≤ u32_max → length s < bytes_by h s → Lacks s h Longer
 
 -- WHAT EACH ANSWER SAYS
-pub data Due (s : List ℕ) : Length → Type 0 where
-  no_bytes : length s ≡ 0 → Due s Cut
-  measured : {n : ℕ} → 1 ≤ length s → Encoded (header_of (get_or s 0 0)) s n → Due s (Known n)
-  none : {r : Length} → 1 ≤ length s → Lacks s (header_of (get_or s 0 0)) r → Due s r
+pub data Due (s : List ℕ) : Result ℕ Flaw → Type 0 where
+  no_bytes : length s ≡ 0 → Due s (Err Cut)
+  measured : {n : ℕ} → 1 ≤ length s → Encoded (header_of (get_or s 0 0)) s n → Due s (Ok n)
+  none : {f : Flaw} → 1 ≤ length s → Lacks s (header_of (get_or s 0 0)) f → Due s (Err f)

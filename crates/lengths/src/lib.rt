@@ -10,15 +10,29 @@ ghost use Rattle.lengths.specs.Promises.{HoldsPromise, FixedPromise, LengthPromi
 
 use encoding::{Header, header_of};
 
-// How long a value's own encoding is; or that it has no bytes or a cut header, a sum above the 32-bit range, an unknown
-// primitive type, or more bytes than are at hand.
-#[derive(Drop)]
-pub enum Length {
-    Known(usize),
+// Why a value has no own length: it has no bytes or a cut header, a sum above the 32-bit range, an unknown primitive type,
+// or more bytes than are at hand.
+#[derive(Clone, Copy)]
+pub enum Flaw {
     Cut,
     Sum,
     Unknown,
     Longer,
+}
+
+impl From<layout::Flaw> for Flaw {
+    ghost use Rattle.std.specs.Prelude.{◌≡◌};
+    ghost use Rattle.lengths.specs.Lengths.{of_layout};
+
+    ghost from_gives = { λ lower flaw. flaw ≡ of_layout lower };
+
+    fn from(flaw: layout::Flaw) -> Flaw {
+        match flaw {
+            layout::Flaw::Cut => Flaw::Cut,
+            layout::Flaw::Sum => Flaw::Sum,
+            layout::Flaw::Longer => Flaw::Longer,
+        }
+    }
 }
 
 // Bytes after the header byte, by primitive type. Types 15 and 16, whose four bytes are a length, have as many more.
@@ -47,16 +61,16 @@ const PAYLOADS: [u8; 21] = [
 ];
 
 // n bytes, where so many are at hand.
-fn within(len: usize, n: usize) -> Length
+fn within(len: usize, n: usize) -> Result<usize, Flaw>
     ensures { result ≡ sized len n }
 {
     if width::U32_MAX < n {
-        return Length::Sum;
+        return Err(Flaw::Sum);
     }
     if len < n {
-        return Length::Longer;
+        return Err(Flaw::Longer);
     }
-    Length::Known(n)
+    Ok(n)
 }
 
 // Whether a primitive's first four bytes are the length of the others.
@@ -69,30 +83,30 @@ pub fn holds_length(t: usize) -> bool
     t == 16
 }
 
-// The bytes of a primitive where its type alone says them; 0 of an unknown type, and of one that holds its length.
-pub fn fixed_length(t: usize) -> usize
+// The bytes of a primitive where its type alone says them: it is known, and holds no length.
+pub fn fixed_length(t: usize) -> Option<usize>
     ensures { FixedPromise t result }
 {
     if 20 < t {
-        return 0;
+        return None;
     }
     if holds_length(t) {
-        return 0;
+        return None;
     }
-    1 + width::wide(PAYLOADS[t])
+    Some(1 + width::wide(PAYLOADS[t]))
 }
 
-fn primitive_length(s: &[u8], t: usize) -> Length
+fn primitive_length(s: &[u8], t: usize) -> Result<usize, Flaw>
     requires { 1 ≤ length s.now }
     ensures { result ≡ length_by (header.Primitive t) s.now }
 {
     if 21 <= t {
-        return Length::Unknown;
+        return Err(Flaw::Unknown);
     }
     let payload = width::wide(PAYLOADS[t]);
     if holds_length(t) {
         if s.len() < 5 {
-            return Length::Cut;
+            return Err(Flaw::Cut);
         }
         let held = width::unpack_u32(s, 1, 4);
         return within(s.len(), 1 + payload + held);
@@ -100,25 +114,20 @@ fn primitive_length(s: &[u8], t: usize) -> Length
     within(s.len(), 1 + payload)
 }
 
-fn layout_length(s: &[u8], w: layout::Widths) -> Length
+fn layout_length(s: &[u8], w: layout::Widths) -> Result<usize, Flaw>
     requires { Few w }
     ensures { result ≡ length_by (header.Object w) s.now }
 {
-    let head = layout::read(s, w);
-    match head {
-        layout::Head::Cut => Length::Cut,
-        layout::Head::Sum => Length::Sum,
-        layout::Head::Longer => Length::Longer,
-        layout::Head::Good(l) => Length::Known(l.end),
-    }
+    let l = layout::read(s, w)?;
+    Ok(l.end)
 }
 
 // The own length of the value that the bytes begin with, by its first bytes alone.
-pub fn own_length(s: &[u8]) -> Length
+pub fn own_length(s: &[u8]) -> Result<usize, Flaw>
     ensures { LengthPromise s.now result }
 {
     if s.len() < 1 {
-        return Length::Cut;
+        return Err(Flaw::Cut);
     }
     let h = header_of(s[0]);
     match h {
@@ -130,27 +139,15 @@ pub fn own_length(s: &[u8]) -> Length
 }
 
 // Whether a length is known.
-pub fn is_known(l: Length) -> bool
+pub fn is_known(l: Result<usize, Flaw>) -> bool
     ensures { KnownPromise l result }
 {
-    match l {
-        Length::Known(_) => true,
-        Length::Cut => false,
-        Length::Sum => false,
-        Length::Unknown => false,
-        Length::Longer => false,
-    }
+    l.is_ok()
 }
 
 // The bytes of a length that is known; none of any other.
-pub fn bytes_of(l: Length) -> usize
+pub fn bytes_of(l: Result<usize, Flaw>) -> usize
     ensures { BytesPromise l result }
 {
-    match l {
-        Length::Known(n) => n,
-        Length::Cut => 0,
-        Length::Sum => 0,
-        Length::Unknown => 0,
-        Length::Longer => 0,
-    }
+    l.unwrap_or(0)
 }

@@ -1,7 +1,8 @@
 -- `lengths::own_length` meets its contract: no bytes, or by what the header byte says. Assumes nothing.
 use Rattle.rules.proofs.Prelude.{◌≡◌, ◌∙◌, List, ℕ, ◌≤◌, arith, rules, length, get_or}
 use Rattle.encoding.specs.declared.Header.{Header}
-use Rattle.lengths.specs.declared.Length.{Length}
+use Rattle.std.specs.Prelude.{Result}
+use Rattle.lengths.specs.declared.Flaw.{Flaw}
 use Rattle.lengths.specs.Lengths.{length_by, own_length}
 use Rattle.encoding.specs.Promises.{HeaderPromise}
 use Rattle.lengths.proofs.Laws.{of_none, of_some, short_end, list_as_object}
@@ -9,7 +10,7 @@ use Rattle.lengths.proofs.own_length.Statement.{statement}
 use Rattle.lengths.proofs.own_length.Tie as tie
 
 -- what a step answers for the header of the first byte is the own length
-told : (s : List ℕ) (h : Header) {r : Length} → HeaderPromise (get_or s 0 0) h → 1 ≤ length s → r ≡ length_by h s → r ≡ own_length s
+told : (s : List ℕ) (h : Header) {r : Result ℕ Flaw} → HeaderPromise (get_or s 0 0) h → 1 ≤ length s → r ≡ length_by h s → r ≡ own_length s
 told s h p some e = e ∙ (rw (← p.says) at (of_some s some))
 
 pub own_length_spec : {M : Type 1} → statement M
