@@ -1,15 +1,15 @@
 -- Laws of the table of first bytes, each by one test that is computed over the whole table. Assumes nothing.
-use mathlib.Core.Path.{◌≡◌, refl}
+use mathlib.Core.Path.{◌≡◌, refl, ap}
 use mathlib.Core.Bool.{Bool, true, false, cond, ◌&&◌, ◌||◌}
 use mathlib.Core.List.{List, [], ◌∷◌}
 use Prim.Native.Nat.{ℕ, ◌≤◌}
 use native.Mathlib.Omega.{arith}
 use borrow.Author.Tests.{ltb-true, leb-true, le-leb}
 use lib.Dec.{leb, ltb}
+use Rattle.std.specs.Prelude.{Option, None}
 use Rattle.rules.proofs.Laws.{both}
 use Rattle.leads.specs.declared.Lead.{Lead}
-use Rattle.leads.specs.declared.Lead.TheVariants.{Bad, Seq}
-use Rattle.leads.specs.Table.{Row, table, look, lead_of, Cont}
+use Rattle.leads.specs.Table.{Row, table, look, asks, lead_of, Cont}
 use Rattle.leads.specs.Table.Row.{row}
 
 abbrev choose : Bool → Type 0 → Type 0 → Type 0
@@ -18,10 +18,10 @@ choose false A B = B
 
 -- All numbers from lo to hi are looked up as x: they lie in the row at hand, or all outside of it. At numerals this computes to an equation
 -- that is `refl`.
-abbrev pub Within : List Row → ℕ → ℕ → Lead → Type 0
-Within [] lo hi x = Bad ≡ x
+abbrev pub Within : List Row → ℕ → ℕ → Option Lead → Type 0
+Within [] lo hi x = None ≡ x
 Within (row f t l h n ∷ rows) lo hi x =
-    choose (leb f lo && leb hi t) (Seq l h n ≡ x) (choose (ltb hi f || ltb t lo) (Within rows lo hi x) ⊥)
+    choose (leb f lo && leb hi t) (asks l h n ≡ x) (choose (ltb hi f || ltb t lo) (Within rows lo hi x) ⊥)
 
 outside : (f t lo hi a : ℕ) → lo ≤ a → a ≤ hi → (ltb hi f || ltb t lo) ≡ true → (leb f a && leb a t) ≡ false
 outside f t lo hi a p q e = go (leb f a) refl (leb a t) refl (ltb hi f) refl e
@@ -32,13 +32,13 @@ outside f t lo hi a p q e = go (leb f a) refl (leb a t) refl (ltb hi f) refl e
     go true i true j true k e = absurd (omega (arith, leb-true f a i, ltb-true hi f k))
     go true i true j false k e = absurd (omega (arith, leb-true a t j, ltb-true t lo e))
 
-look_is : (rows : List Row) (lo hi a : ℕ) (x : Lead) → Within rows lo hi x → lo ≤ a → a ≤ hi → look rows a ≡ x
+look_is : (rows : List Row) (lo hi a : ℕ) (x : Option Lead) → Within rows lo hi x → lo ≤ a → a ≤ hi → look rows a ≡ x
 look_is [] lo hi a x w p q = w
 look_is (row f t l h n ∷ rows) lo hi a x w p q =
     go (leb f lo && leb hi t) refl (ltb hi f || ltb t lo) refl (λ v. look_is rows lo hi a x v p q) w
   where
     go : (u : Bool) → (leb f lo && leb hi t) ≡ u → (v : Bool) → (ltb hi f || ltb t lo) ≡ v → (Within rows lo hi x → look rows a ≡ x)
-        → choose u (Seq l h n ≡ x) (choose v (Within rows lo hi x) ⊥) → cond (leb f a && leb a t) (Seq l h n) (look rows a) ≡ x
+        → choose u (asks l h n ≡ x) (choose v (Within rows lo hi x) ⊥) → cond (leb f a && leb a t) (asks l h n) (look rows a) ≡ x
     go true e v f' k w =
         let u = both (leb f lo) (leb hi t) e in
         rw (le-leb f a (omega (arith, leb-true f lo u.0)), le-leb a t (omega (arith, leb-true hi t u.1))) w
@@ -46,7 +46,7 @@ look_is (row f t l h n ∷ rows) lo hi a x w p q =
     go false e false f' k w = absurd w
 
 -- what the table says of a first byte from lo to hi
-pub lead_is : (lo hi : ℕ) {a : ℕ} (x : Lead) → Within table lo hi x → lo ≤ a → a ≤ hi → lead_of a ≡ x
+pub lead_is : (lo hi : ℕ) {a : ℕ} (x : Option Lead) → Within table lo hi x → lo ≤ a → a ≤ hi → lead_of a ≡ x
 unfolding lead_of
 lead_is lo hi {a} x w p q = look_is table lo hi a x w p q
 
@@ -70,7 +70,7 @@ starts_none f t a e g c =
     go true k e p q = omega (arith, ltb-true t 0x80 k, c)
     go false k e p q = omega (arith, ltb-true 0xBF f e, c)
 
-look_followed : (rows : List Row) (a : ℕ) {l h n : ℕ} → fine rows ≡ true → look rows a ≡ Seq l h n → Followed a l h
+look_followed : (rows : List Row) (a : ℕ) {l h n : ℕ} → fine rows ≡ true → look rows a ≡ asks l h n → Followed a l h
 look_followed [] a g e = let z : ◌≡◌ {A = ℕ} 0 1 = cc in absurd (omega arith)
 look_followed (row f t l' h' n' ∷ rows) a {l} {h} {n} g e =
     let u = both (ltb t 0x80 || ltb 0xBF f) _ g in
@@ -80,13 +80,14 @@ look_followed (row f t l' h' n' ∷ rows) a {l} {h} {n} g e =
     go (leb f a && leb a t) refl u.0 (leb-true 0x80 l' v.0) (leb-true h' 0xBF w.0) (leb-true l' h' x.0) (look_followed rows a x.1) e
   where
     go : (b : Bool) → (leb f a && leb a t) ≡ b → (ltb t 0x80 || ltb 0xBF f) ≡ true → 0x80 ≤ l' → h' ≤ 0xBF → l' ≤ h'
-        → (look rows a ≡ Seq l h n → Followed a l h) → cond b (Seq l' h' n') (look rows a) ≡ Seq l h n → Followed a l h
+        → (look rows a ≡ asks l h n → Followed a l h) → cond b (asks l' h' n') (look rows a) ≡ asks l h n → Followed a l h
     go true k s p q y r e =
-        let i : l' ≡ l = cc in
-        let j : h' ≡ h = cc in
+        let same : ◌≡◌ {A = Lead} (record { lo = l'; hi = h'; rest = n' }) (record { lo = l; hi = h; rest = n }) = cc in
+        let i = ap (λ (r : Lead). r.lo) same in
+        let j = ap (λ (r : Lead). r.hi) same in
         record { starts = starts_none f t a s k; low = omega arith; high = omega arith; some = omega arith }
     go false k s p q y r e = r e
 
-pub followed : {a l h n : ℕ} → lead_of a ≡ Seq l h n → Followed a l h
+pub followed : {a l h n : ℕ} → lead_of a ≡ asks l h n → Followed a l h
 unfolding lead_of
 followed {a} e = look_followed table a refl e

@@ -1,7 +1,6 @@
 -- The first bytes of UTF-8's characters by RFC 3629, section 4, and what each asks (document 01, "Dictionary bytes"). Assumes nothing.
-use Rattle.std.specs.Prelude.{cond, ◌&&◌, List, [], ◌∷◌, ℕ, ◌≤◌, leb}
+use Rattle.std.specs.Prelude.{cond, ◌&&◌, List, [], ◌∷◌, ℕ, ◌≤◌, leb, Option, Some, None}
 use Rattle.leads.specs.declared.Lead.{Lead}
-use Rattle.leads.specs.declared.Lead.TheVariants.{Bad, Seq}
 
 -- THE TABLE: a first byte from `from` to `to` is followed by `rest` bytes, the first of them from `lo` to `hi`. Nothing else.
 
@@ -21,12 +20,15 @@ table =
     ∷ row 0xF4 0xF4 0x80 0x8F 3
     ∷ []
 
--- what the table asks after a first byte
-abbrev pub look : List Row → ℕ → Lead
-look [] a = Bad
-look (row from to lo hi rest ∷ rows) a = cond (leb from a && leb a to) (Seq lo hi rest) (look rows a)
+abbrev pub asks : (lo hi rest : ℕ) → Option Lead
+asks lo hi rest = Some (record { lo = lo; hi = hi; rest = rest })
 
-unfoldable pub lead_of : ℕ → Lead
+-- what the table asks after a first byte; None: it starts no character
+abbrev pub look : List Row → ℕ → Option Lead
+look [] a = None
+look (row from to lo hi rest ∷ rows) a = cond (leb from a && leb a to) (asks lo hi rest) (look rows a)
+
+unfoldable pub lead_of : ℕ → Option Lead
 lead_of a = look table a
 
 -- a byte from 80 to BF, which continues a character

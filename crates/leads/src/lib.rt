@@ -2,24 +2,25 @@
 #![tactic(auto)]
 
 ghost use Rattle.std.specs.Prelude.{◌≡◌};
-ghost use Rattle.leads.specs.Table.{lead_of};
+ghost use Rattle.leads.specs.Table.{asks, lead_of};
 
 // What a first byte asks: `rest` bytes after it, the first of those from `lo` to `hi`.
-#[derive(Drop)]
-pub enum Lead {
-    Bad,
-    Seq { lo: u8, hi: u8, rest: usize },
+#[derive(Clone, Copy)]
+pub struct Lead {
+    pub lo: u8,
+    pub hi: u8,
+    pub rest: usize,
 }
 
 // A row of the RFC's table.
-fn seq(lo: u8, hi: u8, rest: usize) -> Lead
-    ensures { result ≡ Lead.Seq lo hi rest }
+fn seq(lo: u8, hi: u8, rest: usize) -> Option<Lead>
+    ensures { result ≡ asks lo hi rest }
 {
-    Lead::Seq { lo, hi, rest }
+    Some(Lead { lo, hi, rest })
 }
 
-// A decision on the first byte's range.
-pub fn classify(a: u8) -> Lead
+// A decision on the first byte's range: what it asks, where it starts a character.
+pub fn classify(a: u8) -> Option<Lead>
     ensures { result ≡ lead_of a }
 {
     match a {
@@ -32,6 +33,6 @@ pub fn classify(a: u8) -> Lead
         0xF0 => seq(0x90, 0xBF, 3),
         0xF1..=0xF3 => seq(0x80, 0xBF, 3),
         0xF4 => seq(0x80, 0x8F, 3),
-        _ => Lead::Bad,
+        _ => None,
     }
 }
