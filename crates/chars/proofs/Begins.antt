@@ -10,11 +10,11 @@ use borrow.Author.Tests.{le-leb, lt-ltb, le-ltb, ltb-true}
 use lib.Dec.{ltb}
 use lib.ListN.{length, drop, get_or, drop_of_length-le, length-append, length-drop}
 use lib.Seq.{drop-cons, take-length}
+use Rattle.std.specs.Prelude.{Option, Some, None}
 use Rattle.rules.specs.Rules.Test.{is}
 use Rattle.rules.proofs.Laws.{false_true, both, unless}
 use Rattle.leads.specs.declared.Lead.{Lead}
-use Rattle.leads.specs.declared.Lead.TheVariants.{Bad, Seq}
-use Rattle.leads.specs.Table.{lead_of}
+use Rattle.leads.specs.Table.{asks, lead_of}
 use Rattle.chars.specs.Rfc3629.{Tails, Char, Begins, tails_of, begins_by, begins}
 use Rattle.chars.specs.Rfc3629.Tails.{end, next}
 use Rattle.chars.specs.Rfc3629.Char.{char_of}
@@ -53,13 +53,13 @@ unfolding begins
 is_beginning [] e = false_true e
 is_beginning (a ∷ s) e = by_lead (lead_of a) refl e
   where
-    by_lead : (x : Lead) → lead_of a ≡ x → begins_by x s ≡ true → Begins (a ∷ s)
-    by_lead Bad l e = false_true e
-    by_lead (Seq lo hi n) l e =
-        let u = both (ltb (length s) n) _ e in
-        let few = ltb-true (length s) n u.0 in
-        let fits : Tails lo hi (length s) s = rw take-length at (tails_sound lo hi (length s) s u.1).1 in
-        let f = filled (followed l).some fits n (n - length s) (omega arith) in
+    by_lead : (x : Option Lead) → lead_of a ≡ x → begins_by x s ≡ true → Begins (a ∷ s)
+    by_lead None l e = false_true e
+    by_lead (Some x) l e =
+        let u = both (ltb (length s) x.rest) _ e in
+        let few = ltb-true (length s) x.rest u.0 in
+        let fits : Tails x.lo x.hi (length s) s = rw take-length at (tails_sound x.lo x.hi (length s) s u.1).1 in
+        let f = filled (followed l).some fits x.rest (x.rest - length s) (omega arith) in
         record { some = omega arith; further = f.further; at_least_one = omega (arith, f.many); whole = char_of l f.fits }
 
 begins_one : (s : List ℕ) → Begins s → begins s ≡ true
@@ -85,11 +85,11 @@ module _ (at : ℕ) (s : List ℕ) where
   unfolding begins
   begins_end q = rw (drop_of_length-le s q)
 
-  pub begins_bad : at < length s → lead_of (get_or s at 0) ≡ Bad → begins (drop at s) ≡ false
+  pub begins_bad : at < length s → lead_of (get_or s at 0) ≡ None → begins (drop at s) ≡ false
   unfolding begins
   begins_bad q e = rw (drop-cons s at 0 q, e)
 
-  module _ {l h n : ℕ} (q : at < length s) (e : lead_of (get_or s at 0) ≡ Seq l h n) where
+  module _ {l h n : ℕ} (q : at < length s) (e : lead_of (get_or s at 0) ≡ asks l h n) where
     by_seq : begins (drop at s) ≡ (ltb (length s - at - 1) n && tails_of l h (length s - at - 1) (drop (at + 1) s))
     unfolding begins
     by_seq =

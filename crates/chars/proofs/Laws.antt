@@ -10,12 +10,12 @@ use borrow.Author.Tests.{leb-true, le-leb, lt-leb}
 use lib.Dec.{leb}
 use lib.ListN.{length, take, drop, get_or, drop_of_length-le, length-drop}
 use lib.Seq.{drop-cons, take-length}
+use Rattle.std.specs.Prelude.{Option, Some, None}
 use Rattle.rules.proofs.Laws.{false_true, both}
 use Rattle.walk.specs.Walk.{Finds}
 use Rattle.walk.proofs.Laws.{up_to_le, up_to_sound, up_to_left, up_to_longest, up_to_whole}
 use Rattle.leads.specs.declared.Lead.{Lead}
-use Rattle.leads.specs.declared.Lead.TheVariants.{Bad, Seq}
-use Rattle.leads.specs.Table.{lead_of}
+use Rattle.leads.specs.Table.{asks, lead_of}
 use Rattle.chars.specs.Rfc3629.{Tails, Char, Text, LongestText, tails_of, char_by, char, text_up_to}
 use Rattle.chars.specs.Rfc3629.Tails.{end, next}
 use Rattle.chars.specs.Rfc3629.Char.{char_of}
@@ -79,12 +79,12 @@ unfolding char
 char_found [] = (zero-le, λ p. absurd (omega arith))
 char_found (a ∷ s) = by_lead (lead_of a) refl
   where
-    by_lead : (x : Lead) → lead_of a ≡ x → (char_by x s ≤ suc (length s)) × (0 < char_by x s → Char (take (char_by x s) (a ∷ s)))
-    by_lead Bad e = (zero-le, λ p. absurd (omega arith))
-    by_lead (Seq l h n) e = by_tails (tails_of l h n s) refl
+    by_lead : (x : Option Lead) → lead_of a ≡ x → (char_by x s ≤ suc (length s)) × (0 < char_by x s → Char (take (char_by x s) (a ∷ s)))
+    by_lead None e = (zero-le, λ p. absurd (omega arith))
+    by_lead (Some x) e = by_tails (tails_of x.lo x.hi x.rest s) refl
       where
-        by_tails : (t : Bool) → tails_of l h n s ≡ t → (cond t (suc n) 0 ≤ suc (length s)) × (0 < cond t (suc n) 0 → Char (take (cond t (suc n) 0) (a ∷ s)))
-        by_tails true f = let u = tails_sound l h n s f in (suc-le-suc u.0, λ _. char_of e u.1)
+        by_tails : (t : Bool) → tails_of x.lo x.hi x.rest s ≡ t → (cond t (suc x.rest) 0 ≤ suc (length s)) × (0 < cond t (suc x.rest) 0 → Char (take (cond t (suc x.rest) 0) (a ∷ s)))
+        by_tails true f = let u = tails_sound x.lo x.hi x.rest s f in (suc-le-suc u.0, λ _. char_of e u.1)
         by_tails false f = (zero-le, λ p. absurd (omega arith))
 
 char_filled : (c : List ℕ) → Char c → 0 < length c
@@ -100,16 +100,16 @@ module _ (at : ℕ) (s : List ℕ) where
   unfolding char
   char_end q = rw (drop_of_length-le s q)
 
-  pub char_bad : at < length s → lead_of (get_or s at 0) ≡ Bad → char (drop at s) ≡ 0
+  pub char_bad : at < length s → lead_of (get_or s at 0) ≡ None → char (drop at s) ≡ 0
   unfolding char
   char_bad q e = rw (drop-cons s at 0 q, e)
 
-  pub char_seq : {l h n : ℕ} (t : Bool) → at < length s → lead_of (get_or s at 0) ≡ Seq l h n → t ≡ tails_of l h n (drop (at + 1) s) → char (drop at s) ≡ cond t (n + 1) 0
+  pub char_seq : {l h n : ℕ} (t : Bool) → at < length s → lead_of (get_or s at 0) ≡ asks l h n → t ≡ tails_of l h n (drop (at + 1) s) → char (drop at s) ≡ cond t (n + 1) 0
   unfolding char
   char_seq {n = n} t q e f = rw (f, drop-cons s at 0 q, e, add-one at, add-one n)
 
   pub char_plain : at < length s → get_or s at 0 < 0x80 → char (drop at s) ≡ 1
-  char_plain q p = char_seq true q (lead_is 0x00 0x7F (Seq 0x80 0xBF 0) refl (omega arith) (omega arith)) (sym (tails_none 0x80 0xBF (at + 1) s))
+  char_plain q p = char_seq true q (lead_is 0x00 0x7F (asks 0x80 0xBF 0) refl (omega arith) (omega arith)) (sym (tails_none 0x80 0xBF (at + 1) s))
 
   pub tails_fit : (l h n : ℕ) → tails_of l h n (drop at s) ≡ true → n ≤ length s - at
   tails_fit l h n e = rw length-drop at (tails_sound l h n (drop at s) e).0

@@ -1,10 +1,9 @@
 -- UTF-8 by RFC 3629, section 4 (document 01, "Dictionary bytes"): which bytes are a character, what a text is, how long a text a list starts
 -- with, and what the proper beginning of a character is (document 02, b). Assumes nothing.
-use Rattle.std.specs.Prelude.{◌≡◌, Bool, true, false, cond, ◌&&◌, List, [], ◌∷◌, ◌++◌, ℕ, zero, suc, ◌≤◌, ◌<◌, leb, ltb, length, take, drop}
+use Rattle.std.specs.Prelude.{◌≡◌, Bool, true, false, cond, ◌&&◌, List, [], ◌∷◌, ◌++◌, ℕ, zero, suc, ◌≤◌, ◌<◌, leb, ltb, length, take, drop, Option, Some, None}
 use Rattle.walk.specs.Walk.{Items, up_to}
 use Rattle.leads.specs.declared.Lead.{Lead}
-use Rattle.leads.specs.declared.Lead.TheVariants.{Bad, Seq}
-use Rattle.leads.specs.Table.{lead_of}
+use Rattle.leads.specs.Table.{asks, lead_of}
 
 -- A CHARACTER is a first byte of the table and what that asks.
 
@@ -14,7 +13,7 @@ pub data Tails : ℕ → ℕ → ℕ → List ℕ → Type 0 where
   next : {lo hi rest b : ℕ} {s : List ℕ} → lo ≤ b → b ≤ hi → Tails 0x80 0xBF rest s → Tails lo hi (suc rest) (b ∷ s)
 
 pub data Char : List ℕ → Type 0 where
-  char_of : {lo hi rest a : ℕ} {s : List ℕ} → lead_of a ≡ Seq lo hi rest → Tails lo hi rest s → Char (a ∷ s)
+  char_of : {lo hi rest a : ℕ} {s : List ℕ} → lead_of a ≡ asks lo hi rest → Tails lo hi rest s → Char (a ∷ s)
 
 -- A TEXT is characters one after another.
 abbrev pub Text : List ℕ → Type 0
@@ -49,9 +48,9 @@ tails_of lo hi zero s = true
 tails_of lo hi (suc rest) [] = false
 tails_of lo hi (suc rest) (b ∷ s) = leb lo b && (leb b hi && tails_of 0x80 0xBF rest s)
 
-abbrev pub char_by : Lead → List ℕ → ℕ
-char_by Bad s = 0
-char_by (Seq lo hi rest) s = cond (tails_of lo hi rest s) (suc rest) 0
+abbrev pub char_by : Option Lead → List ℕ → ℕ
+char_by None s = 0
+char_by (Some a) s = cond (tails_of a.lo a.hi a.rest s) (suc a.rest) 0
 
 -- the length of the character that a list starts with, 0 where it starts with none
 unfoldable pub char : List ℕ → ℕ
@@ -63,9 +62,9 @@ unfoldable pub text_up_to : List ℕ → ℕ
 text_up_to s = up_to char s
 
 -- a proper beginning has fewer bytes than its first one asks for, and all of them fit
-abbrev pub begins_by : Lead → List ℕ → Bool
-begins_by Bad s = false
-begins_by (Seq lo hi rest) s = ltb (length s) rest && tails_of lo hi (length s) s
+abbrev pub begins_by : Option Lead → List ℕ → Bool
+begins_by None s = false
+begins_by (Some a) s = ltb (length s) a.rest && tails_of a.lo a.hi (length s) s
 
 unfoldable pub begins : List ℕ → Bool
 begins [] = false

@@ -45,10 +45,9 @@ pub fn char_at(s: &[u8], at: usize) -> usize
     if first < 0x80 {
         return 1;
     }
-    let lead = classify(first);
-    match lead {
-        Lead::Bad => 0,
-        Lead::Seq { lo, hi, rest } => {
+    match classify(first) {
+        None => 0,
+        Some(Lead { lo, hi, rest }) => {
             if tails(s, at + 1, lo, hi, rest) {
                 rest + 1
             } else {
@@ -65,10 +64,9 @@ pub fn begins_at(s: &[u8], at: usize) -> bool
     if s.len() <= at {
         return false;
     }
-    let lead = classify(s[at]);
-    match lead {
-        Lead::Bad => false,
-        Lead::Seq { lo, hi, rest } => {
+    match classify(s[at]) {
+        None => false,
+        Some(Lead { lo, hi, rest }) => {
             let left = s.len() - at - 1;
             if rest <= left {
                 return false;

@@ -9,8 +9,7 @@ use borrow.Author.Tests.{ltb-false, leb-true, leb-false, eqb-false, le-leb, lt-l
 use lib.Dec.{leb, ltb, eqb}
 use lib.ListN.{length, drop, get_or}
 use Rattle.rules.proofs.Laws.{false_true, both, either, neither}
-use Rattle.leads.specs.declared.Lead.TheVariants.{Seq}
-use Rattle.leads.specs.Table.{lead_of, Cont}
+use Rattle.leads.specs.Table.{asks, lead_of, Cont}
 use Rattle.chars.specs.Rfc3629.{tails_of}
 use Rattle.leads.proofs.Table.{lead_is}
 use Rattle.chars.proofs.Laws.{tails_none, tails_in, char_seq}
@@ -77,7 +76,7 @@ module _ (d c a b : ℕ) where
 
 module _ (s : List ℕ) where
   -- a character of the table at i, by its row
-  go_on : (i l h n : ℕ) → Reached s i → i < length s → lead_of (get_or s i 0) ≡ Seq l h n → true ≡ tails_of l h n (drop (i + 1) s) → Reached s (i + (n + 1))
+  go_on : (i l h n : ℕ) → Reached s i → i < length s → lead_of (get_or s i 0) ≡ asks l h n → true ≡ tails_of l h n (drop (i + 1) s) → Reached s (i + (n + 1))
   go_on i l h n r q e t = text_go s i (n + 1) r (sym (char_seq i s true q e t)) (λ z. omega arith)
 
   tails_one : (l h j : ℕ) → j < length s → l ≤ get_or s j 0 → get_or s j 0 ≤ h → true ≡ tails_of l h 1 (drop j s)
@@ -92,7 +91,7 @@ module _ (s : List ℕ) where
 
 -- the row of a first byte b, with what it asks of the byte x after it
 module _ {P : Type 0} {d c : ℕ} (b x : ℕ) (r : Right d c b x) where
-  row_three : 0xE0 ≤ b → b < 0xF0 → ((l h : ℕ) → lead_of b ≡ Seq l h 2 → l ≤ x → x ≤ h → P) → P
+  row_three : 0xE0 ≤ b → b < 0xF0 → ((l h : ℕ) → lead_of b ≡ asks l h 2 → l ≤ x → x ≤ h → P) → P
   row_three p q k = go (dec_lt b 0xE1) (dec_lt b 0xED) (dec_lt b 0xEE) (r.second (omega arith))
     where
       go : Dec (b < 0xE1) → Dec (b < 0xED) → Dec (b < 0xEE) → Cont x → P
@@ -101,7 +100,7 @@ module _ {P : Type 0} {d c : ℕ} (b x : ℕ) (r : Right d c b x) where
       go (no i) (no m) (yes n) t = k 0x80 0x9F (lead_is 0xED 0xED _ refl (omega arith) (omega arith)) t.0 (r.ed (omega arith))
       go (no i) (no m) (no n) t = k 0x80 0xBF (lead_is 0xEE 0xEF _ refl (omega arith) (omega arith)) t.0 t.1
 
-  row_four : 0xF0 ≤ b → b ≤ 0xF4 → ((l h : ℕ) → lead_of b ≡ Seq l h 3 → l ≤ x → x ≤ h → P) → P
+  row_four : 0xF0 ≤ b → b ≤ 0xF4 → ((l h : ℕ) → lead_of b ≡ asks l h 3 → l ≤ x → x ≤ h → P) → P
   row_four p q k = go (dec_lt b 0xF1) (dec_lt b 0xF4) (r.second (omega arith))
     where
       go : Dec (b < 0xF1) → Dec (b < 0xF4) → Cont x → P

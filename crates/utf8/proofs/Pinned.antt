@@ -2,8 +2,9 @@
 use mathlib.Core.Path.{◌≡◌, sym, ◌∙◌}
 use mathlib.Core.List.{List}
 use Prim.Native.Nat.{ℕ}
-use Rattle.utf8.specs.declared.Verdict.{Verdict}
+use Rattle.std.specs.Prelude.{Result, ⊤}
+use Rattle.utf8.specs.declared.Flaw.{Flaw}
 use Rattle.utf8.specs.Promises.{CheckPromise}
 
-pub check_pinned : (s : List ℕ) (r q : Verdict) → CheckPromise s r → CheckPromise s q → r ≡ q
+pub check_pinned : (s : List ℕ) (r q : Result ⊤ Flaw) → CheckPromise s r → CheckPromise s q → r ≡ q
 check_pinned s r q a b = a ∙ sym b

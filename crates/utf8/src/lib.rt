@@ -7,11 +7,10 @@ ghost use Rattle.plain.specs.Steps.{Reached};
 ghost use Rattle.blocks.specs.Steps.{Rights};
 ghost use Rattle.utf8.specs.Promises.{CheckPromise};
 
-// The whole is a text; or it is cut, or broken, after the longest well-formed text that it starts with, whose length is given: what is left
-// is a proper beginning of a character, or it is not (Utf8Error: error_len is None, or not).
-#[derive(Drop)]
-pub enum Verdict {
-    Whole,
+// What is no text is cut, or broken, after the longest well-formed text that it starts with, whose length is given: what is left is a proper
+// beginning of a character, or it is not (Utf8Error: error_len is None, or not).
+#[derive(Clone, Copy)]
+pub enum Flaw {
     Cut(usize),
     Broken(usize),
 }
@@ -89,16 +88,16 @@ fn valid_len(s: &[u8]) -> usize
 }
 
 // Whether `s` is a text, and where not, up to where it is one and whether it is cut there.
-pub fn check(s: &[u8]) -> Verdict
+pub fn check(s: &[u8]) -> Result<(), Flaw>
     ensures { CheckPromise s.now result }
 {
     let at = valid_len(s);
     let end = s.len();
     if at == end {
-        return Verdict::Whole;
+        return Ok(());
     }
     if chars::begins_at(s, at) {
-        return Verdict::Cut(at);
+        return Err(Flaw::Cut(at));
     }
-    Verdict::Broken(at)
+    Err(Flaw::Broken(at))
 }
