@@ -10,13 +10,14 @@ use Rattle.width.specs.Width.{le}
 use Rattle.number.specs.Signed.{signed}
 use Rattle.encoding.specs.declared.Header.{Header}
 use Rattle.encoding.specs.declared.Header.TheVariants as header
-use Rattle.lengths.specs.declared.Length.{Length}
-use Rattle.lengths.specs.declared.Length.TheVariants.{Known}
+use Rattle.std.specs.Prelude.{Result, Ok}
+use Rattle.lengths.specs.declared.Flaw.{Flaw}
 use Rattle.encoding.specs.Encoding.{header_of}
 use Rattle.lengths.specs.Lengths.{payload, bytes_by, own_length}
 use Rattle.lengths.proofs.Means.{known}
 use Rattle.value.specs.declared.Value.{Value}
 use Rattle.value.specs.declared.Value.TheVariants.{Null, Bool as Truth, I8, I16, I32, I64, F32, F32Nan, F64, F64Nan, Bytes}
+use Rattle.value.specs.declared.Kind.TheVariants.{Primitive}
 use Rattle.value.specs.Reading.{single, double, payload_start, primitive, read_by, measured, reading}
 
 -- BITS: without the sign, a NaN's are above those of infinity
@@ -81,7 +82,7 @@ module _ (P : Value → Type 0) (t : ℕ) (s : List ℕ) (n : ℕ) where
       → (t ≡ 3 → P (I8 (signed 1 (drop 1 s)))) → (t ≡ 4 → P (I16 (signed 2 (drop 1 s))))
       → (t ≡ 5 → P (I32 (signed 4 (drop 1 s)))) → (t ≡ 6 → P (I64 (signed 8 (drop 1 s))))
       → (t ≡ 7 → P (double (le 8 (drop 1 s)))) → (t ≡ 14 → P (single (le 4 (drop 1 s))))
-      → (8 ≤ t → (t ≡ 14 → ⊥) → P (Bytes t (payload_start t) n)) → P (primitive t s n)
+      → (8 ≤ t → (t ≡ 14 → ⊥) → P (Bytes (Primitive t) (payload_start t) n)) → P (primitive t s n)
   unfolding primitive
   by_type of0 of1 of2 of3 of4 of5 of6 of7 of14 placed =
       either P (eqb t 0) (λ e. of0 (eqb-true t 0 e)) (λ e0.
@@ -98,20 +99,20 @@ module _ (P : Value → Type 0) (t : ℕ) (s : List ℕ) (n : ℕ) where
       (eqb-false t 6 e6) (eqb-false t 7 e7)) (eqb-false t 14 e14))))))))))
 
 -- one that is read as a place
-pub placed_is : (t : ℕ) (s : List ℕ) (n : ℕ) {a : ℕ} → 8 ≤ t → (t ≡ 14 → ⊥) → a ≡ payload_start t → Bytes t a n ≡ primitive t s n
+pub placed_is : (t : ℕ) (s : List ℕ) (n : ℕ) {a : ℕ} → 8 ≤ t → (t ≡ 14 → ⊥) → a ≡ payload_start t → Bytes (Primitive t) a n ≡ primitive t s n
 placed_is t s n {a} least no_float is =
-    by_type (λ v. Bytes t a n ≡ v) t s n (λ e. absurd (omega arith)) (λ e. absurd (omega arith)) (λ e. absurd (omega arith)) (λ e. absurd (omega arith))
+    by_type (λ v. Bytes (Primitive t) a n ≡ v) t s n (λ e. absurd (omega arith)) (λ e. absurd (omega arith)) (λ e. absurd (omega arith)) (λ e. absurd (omega arith))
     (λ e. absurd (omega arith)) (λ e. absurd (omega arith)) (λ e. absurd (omega arith)) (λ e. absurd (omega arith)) (λ e. absurd (no_float e))
-    (λ _ _. ap (λ x. Bytes t x n) is)
+    (λ _ _. ap (λ x. Bytes (Primitive t) x n) is)
 
 -- THE READING, by the own length, and by the header where it is known
 module _ (s : List ℕ) where
-  pub by_length : {l : Length} → l ≡ own_length s → measured l s ≡ reading s
+  pub by_length : {l : Result ℕ Flaw} → l ≡ own_length s → measured l s ≡ reading s
   unfolding reading
   by_length e = rw e
 
-  module _ (n : ℕ) (own : own_length s ≡ Known n) where
-    pub by_header : {h : Header} → h ≡ header_of (get_or s 0 0) → read_by h s n ≡ reading s
+  module _ (n : ℕ) (own : own_length s ≡ Ok n) where
+    pub by_header : {h : Header} → h ≡ header_of (get_or s 0 0) → Ok (read_by h s n) ≡ reading s
     unfolding measured
     by_header e = rw e (by_length (sym own))
 

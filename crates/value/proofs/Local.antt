@@ -6,24 +6,25 @@ use Rattle.width.proofs.Laws.{le_append_at}
 use Rattle.number.proofs.Means.{signed_append_at}
 use Rattle.encoding.specs.declared.Header.{Header}
 use Rattle.encoding.specs.declared.Header.TheVariants as header
-use Rattle.lengths.specs.declared.Length.{Length}
-use Rattle.lengths.specs.declared.Length.TheVariants.{Known, Cut, Sum, Unknown, Longer}
+use Rattle.std.specs.Prelude.{Result, Ok, Err}
+use Rattle.lengths.specs.declared.Flaw.{Flaw}
+use Rattle.lengths.specs.declared.Flaw.TheVariants.{Cut, Sum, Unknown, Longer}
 use Rattle.encoding.specs.Encoding.{header_of}
 use Rattle.lengths.specs.Lengths.{payload, own_length}
 use Rattle.lengths.proofs.Appended as lengths
 use Rattle.lengths.proofs.Appended.{Settled, own_bytes}
 use Rattle.lengths.proofs.Cut.{cut_or_longer}
-use Rattle.value.specs.declared.Value.{Value}
+use Rattle.value.specs.declared.Refusal.TheVariants.{Short}
 use Rattle.value.specs.declared.Value.TheVariants as value
 use Rattle.value.specs.Reading.{single, double, primitive, read_by, measured, reading}
 use Rattle.value.proofs.Laws.{by_type, placed_is, by_length, some_byte, payload_there}
 
 -- what 50 is of
-of_cut : (s : List ℕ) → own_length s ≡ Cut → reading s ≡ value.Short
+of_cut : (s : List ℕ) → own_length s ≡ Err Cut → reading s ≡ Err Short
 unfolding measured
 of_cut s e = sym (by_length s (sym e))
 
-of_longer : (s : List ℕ) → own_length s ≡ Longer → reading s ≡ value.Short
+of_longer : (s : List ℕ) → own_length s ≡ Err Longer → reading s ≡ Err Short
 unfolding measured
 of_longer s e = sym (by_length s (sym e))
 
@@ -47,16 +48,13 @@ module _ (s u : List ℕ) where
   by_same (header.List w) n there = refl
 
   -- BYTES ADDED
-  measured_same : (l : Length) → own_length s ≡ l → measured l (s ++ u) ≡ measured l s
+  measured_same : (l : Result ℕ Flaw) → own_length s ≡ l → measured l (s ++ u) ≡ measured l s
   unfolding measured
-  measured_same (Known n) e =
+  measured_same (Ok n) e =
       let some = some_byte s n e in
       let first : get_or (s ++ u) 0 0 ≡ get_or s 0 0 = List·getD-append s u 0 0 some in
-      rw first (by_same (header_of (get_or s 0 0)) n (λ t p. payload_there s n e p))
-  measured_same Cut e = refl
-  measured_same Sum e = refl
-  measured_same Unknown e = refl
-  measured_same Longer e = refl
+      rw first (ap Ok (by_same (header_of (get_or s 0 0)) n (λ t p. payload_there s n e p)))
+  measured_same (Err f) e = refl
 
   pub appended : Settled (own_length s) → reading (s ++ u) ≡ reading s
   appended settled =
@@ -64,18 +62,18 @@ module _ (s u : List ℕ) where
       sym (by_length (s ++ u) (sym same)) ∙ measured_same (own_length s) refl ∙ by_length s refl
 
   -- so every reading stays but a refusal with 50
-  pub stays : (reading s ≡ value.Short → ⊥) → reading (s ++ u) ≡ reading s
+  pub stays : (reading s ≡ Err Short → ⊥) → reading (s ++ u) ≡ reading s
   stays other = appended (go (own_length s) refl)
     where
-      go : (l : Length) → own_length s ≡ l → Settled l
-      go (Known n) e = tt
-      go Cut e = absurd (other (of_cut s e))
-      go Sum e = tt
-      go Unknown e = tt
-      go Longer e = absurd (other (of_longer s e))
+      go : (l : Result ℕ Flaw) → own_length s ≡ l → Settled l
+      go (Ok n) e = tt
+      go (Err Cut) e = absurd (other (of_cut s e))
+      go (Err Sum) e = tt
+      go (Err Unknown) e = tt
+      go (Err Longer) e = absurd (other (of_longer s e))
 
 -- BYTES AFTER THE OWN LENGTH
-module _ (s : List ℕ) (n : ℕ) (own : own_length s ≡ Known n) where
+module _ (s : List ℕ) (n : ℕ) (own : own_length s ≡ Ok n) where
   alone : reading (take n s) ≡ reading s
   alone = sym (rw (take-append-drop n s) at (appended (take n s) (drop n s) (rw (own_bytes s n own) tt)))
 
@@ -83,9 +81,9 @@ module _ (s : List ℕ) (n : ℕ) (own : own_length s ≡ Known n) where
   local u = appended (take n s) u (rw (own_bytes s n own) tt) ∙ alone
 
   -- CUT
-  pub cut : (m : ℕ) → m < n → reading (take m s) ≡ value.Short
+  pub cut : (m : ℕ) → m < n → reading (take m s) ≡ Err Short
   cut m before = go (cut_or_longer s n m own before)
     where
-      go : (own_length (take m s) ≡ Cut) ⊎ (own_length (take m s) ≡ Longer) → reading (take m s) ≡ value.Short
+      go : (own_length (take m s) ≡ Err Cut) ⊎ (own_length (take m s) ≡ Err Longer) → reading (take m s) ≡ Err Short
       go (inl e) = of_cut (take m s) e
       go (inr e) = of_longer (take m s) e

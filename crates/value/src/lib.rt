@@ -1,14 +1,45 @@
 // A value read as a number, or as the place of its bytes (variant.rs: Variant; decoder.rs).
 #![tactic(auto)]
 
-ghost use Rattle.std.specs.Prelude.{◌≡◌, ◌+◌, ◌≤◌, length};
+ghost use Rattle.std.specs.Prelude.{◌≡◌, ◌+◌, ◌≤◌, length, Ok};
 ghost use Rattle.lengths.specs.Lengths.{payload, own_length};
-ghost use Rattle.lengths.specs.declared.Length.TheVariants.{Known};
 ghost use Rattle.value.specs.Reading.{single as single_of, double as double_of, payload_start, primitive as primitive_of};
 ghost use Rattle.value.specs.Promises.{ReadPromise};
 
+// Why no value is read: 50 for bytes that do not hold it, 51 for an unknown primitive type.
+#[derive(Clone, Copy)]
+pub enum Refusal {
+    Short,
+    Unknown,
+}
+
+impl From<lengths::Flaw> for Refusal {
+    ghost use Rattle.std.specs.Prelude.{◌≡◌};
+    ghost use Rattle.value.specs.Reading.{of_length};
+
+    ghost from_gives = { λ flaw r. r ≡ of_length flaw };
+
+    fn from(flaw: lengths::Flaw) -> Refusal {
+        match flaw {
+            lengths::Flaw::Cut => Refusal::Short,
+            lengths::Flaw::Sum => Refusal::Short,
+            lengths::Flaw::Unknown => Refusal::Unknown,
+            lengths::Flaw::Longer => Refusal::Short,
+        }
+    }
+}
+
+// What the bytes are that a reading leaves as they are: those of a primitive, by its type, or of a value of another basic type.
+#[derive(Clone, Copy)]
+pub enum Kind {
+    Primitive(usize),
+    ShortString,
+    Object,
+    List,
+}
+
 // What a value is read as. A NaN's bits have a case of their own: the logic has one NaN, which keeps none of them.
-// Bytes are those from start to end, with their kind: the primitive type, or 256 plus the basic type.
+// Bytes are those from start to end.
 #[derive(Drop)]
 pub enum Value {
     Null,
@@ -22,12 +53,10 @@ pub enum Value {
     F64(f64),
     F64Nan(u64),
     Bytes {
-        kind: usize,
+        kind: Kind,
         start: usize,
         end: usize,
     },
-    Short,
-    Unknown,
 }
 
 // A float by its bits. Without the sign, a NaN's are above those of infinity.
@@ -74,7 +103,7 @@ fn primitive(s: &[u8], t: usize, end: usize) -> Value
         7 => double(width::unpack_u64(s, 1) as u64),
         14 => single(width::unpack_u32(s, 1, 4) as u32),
         _ => Value::Bytes {
-            kind: t,
+            kind: Kind::Primitive(t),
             start: payload_start(t),
             end,
         },
@@ -83,24 +112,24 @@ fn primitive(s: &[u8], t: usize, end: usize) -> Value
 
 // A value whose own bytes end at `end`.
 fn whole(s: &[u8], end: usize) -> Value
-    requires { own_length s.now ≡ Known end }
-    ensures { ReadPromise s.now result }
+    requires { own_length s.now ≡ Ok end }
+    ensures { ReadPromise s.now (Ok result) }
 {
     let header = encoding::header_of(s[0]);
     match header {
         encoding::Header::Primitive(t) => primitive(s, t, end),
         encoding::Header::ShortString(_) => Value::Bytes {
-            kind: 257,
+            kind: Kind::ShortString,
             start: 1,
             end,
         },
         encoding::Header::Object(_) => Value::Bytes {
-            kind: 258,
+            kind: Kind::Object,
             start: 0,
             end,
         },
         encoding::Header::List(_) => Value::Bytes {
-            kind: 259,
+            kind: Kind::List,
             start: 0,
             end,
         },
@@ -108,15 +137,9 @@ fn whole(s: &[u8], end: usize) -> Value
 }
 
 // Reads the value that the bytes begin with.
-pub fn read(value: &[u8]) -> Value
+pub fn read(value: &[u8]) -> Result<Value, Refusal>
     ensures { ReadPromise value.now result }
 {
-    let length = lengths::own_length(value);
-    match length {
-        lengths::Length::Known(end) => whole(value, end),
-        lengths::Length::Cut => Value::Short,
-        lengths::Length::Sum => Value::Short,
-        lengths::Length::Unknown => Value::Unknown,
-        lengths::Length::Longer => Value::Short,
-    }
+    let end = lengths::own_length(value)?;
+    Ok(whole(value, end))
 }

@@ -1,5 +1,6 @@
 -- `value::whole` meets its contract: by what the header byte says. Assumes nothing.
-use Rattle.rules.proofs.Prelude.{◌∙◌, rules}
+use Rattle.rules.proofs.Prelude.{◌∙◌, ap, rules}
+use Rattle.std.specs.Prelude.{Ok}
 use Rattle.value.specs.Reading.{read_by}
 use Rattle.value.proofs.Laws.{by_header, some_byte, payload_there}
 use Rattle.value.proofs.whole.Statement.{statement}
@@ -17,7 +18,7 @@ whole_spec =
     (rw c.in-Primitive.is at c.header_of-header.ensures.says))  -- primitive-requires
     (λ c. search rules) (λ c. search rules) (λ c. search rules)
     (λ c. let n = c in
-    c.primitive.ensures ∙ by_header _ _ n.requires (rw c.in-Primitive.is at n.header_of-header.ensures.says))  -- returns
+    ap Ok c.primitive.ensures ∙ by_header _ _ n.requires (rw c.in-Primitive.is at n.header_of-header.ensures.says))  -- returns
     (λ c. let n = c in by_header _ _ n.requires (rw c.in-ShortString.is at n.header_of-header.ensures.says))  -- returns-2
     (λ c. let n = c in by_header _ _ n.requires (rw c.in-Object.is at n.header_of-header.ensures.says))  -- returns-3
     (λ c. let n = c in by_header _ _ n.requires (rw c.in-List.is at n.header_of-header.ensures.says)))  -- returns-4
