@@ -13,50 +13,69 @@ mod fed;
 
 use answers::Answer;
 use ask_into::STEPS;
-use operands::faults::{NO_ROOM, UNKNOWN};
-use operands::{Operands, Tail, which};
+use operands::{Fault, Operands, Tail};
 use outcomes::Outcome;
 use print::room;
 use print::room::ROOM;
 use slices::{first, part_of, spread};
-use text::word;
+use text::{Span, word};
 
 // The most ends, or words of pairs, that a program has room for: so many names are sorted with scratch.
 pub const ENDS: usize = 16_384;
 
-// What is asked, the place of the verb among all from 1 on, or 0 for a word that asks nothing; and where the line goes on.
-#[derive(Drop)]
-struct Verb {
-    kind: usize,
-    next: usize,
+// What is asked of words that are read before the call. Of pieces each is read and fed.
+#[derive(Clone, Copy)]
+enum Verb {
+    Dictionary,
+    Name,
+    Layer,
+    Lookup,
+    List,
+    All,
+    Value,
+    Tree,
+    Path,
+    Write,
+    WriteObject,
 }
 
-fn verb_of(line: &[u8]) -> Verb {
-    let w = word(line, 0);
-    let a = w.start;
-    let e = w.end;
-    let verbs = b"dictionary name layer lookup list all value tree path write write-object pieces";
-    Verb {
-        kind: which(verbs, 12, &line[a..e]),
-        next: e,
+fn verb_of(word: &[u8]) -> Result<Verb, Fault> {
+    match word {
+        b"dictionary" => Ok(Verb::Dictionary),
+        b"name" => Ok(Verb::Name),
+        b"layer" => Ok(Verb::Layer),
+        b"lookup" => Ok(Verb::Lookup),
+        b"list" => Ok(Verb::List),
+        b"all" => Ok(Verb::All),
+        b"value" => Ok(Verb::Value),
+        b"tree" => Ok(Verb::Tree),
+        b"path" => Ok(Verb::Path),
+        b"write" => Ok(Verb::Write),
+        b"write-object" => Ok(Verb::WriteObject),
+        _ => Err(Fault::Unknown),
     }
 }
 
 // How many of its words are bytes.
-fn rooms(kind: usize) -> usize {
-    match kind {
-        3 | 5 | 8 | 11 => 2,
-        4 | 6 | 9 => 3,
-        _ => 1,
+fn rooms(verb: Verb) -> usize {
+    match verb {
+        Verb::Dictionary | Verb::Name | Verb::Value | Verb::Write => 1,
+        Verb::Layer | Verb::List | Verb::Tree | Verb::WriteObject => 2,
+        Verb::Lookup | Verb::All | Verb::Path => 3,
     }
 }
 
 // And what comes after them.
-fn tail(kind: usize) -> Tail {
-    match kind {
-        2 | 5 => Tail::Number,
-        6 | 10 | 11 => Tail::Numbers,
-        _ => Tail::Nothing,
+fn tail(verb: Verb) -> Tail {
+    match verb {
+        Verb::Name | Verb::List => Tail::Number,
+        Verb::All | Verb::Write | Verb::WriteObject => Tail::Numbers,
+        Verb::Dictionary
+        | Verb::Layer
+        | Verb::Lookup
+        | Verb::Value
+        | Verb::Tree
+        | Verb::Path => Tail::Nothing,
     }
 }
 
@@ -65,19 +84,6 @@ fn walk(dict: &[u8], value: &[u8], path: &[u8]) -> Answer {
     let mut names = room::bytes();
     let mut words = [0u32; STEPS];
     ask_into::path(dict, value, path, &mut names, &mut words)
-}
-
-// What is asked with no room. A value alone is the first of the bytes.
-fn plain(kind: usize, one: &[u8], two: &[u8], three: &[u8], number: usize) -> Answer {
-    match kind {
-        1 => ask::dictionary(one),
-        2 => ask::name(one, number),
-        3 => ask::layer(one, two),
-        4 => ask::lookup(one, two, three),
-        7 => ask::value(one),
-        8 => ask::tree(one, two),
-        _ => walk(one, two, three),
-    }
 }
 
 // The answer with the first `filled` words, where it has some.
@@ -104,12 +110,22 @@ fn five(names: usize, room: usize) -> usize {
     5 * names
 }
 
-fn list(dict: &[u8], object: &[u8], room: usize, words: &mut [u32]) -> Outcome {
+// The first `room` words.
+fn room_of(words: &mut [u32], room: usize) -> Result<&mut [u32], Fault> {
     if words.len() < room {
-        return Outcome::NoCase(NO_ROOM);
+        return Err(Fault::NoRoom);
     }
-    let a = ask_into::list(dict, object, &mut words[0..room]);
-    listed(a, three(a.number, room))
+    Ok(&mut words[0..room])
+}
+
+fn list(
+    dict: &[u8],
+    object: &[u8],
+    room: usize,
+    words: &mut [u32],
+) -> Result<Outcome, Fault> {
+    let a = ask_into::list(dict, object, room_of(words, room)?);
+    Ok(listed(a, three(a.number, room)))
 }
 
 fn all(
@@ -119,12 +135,9 @@ fn all(
     ends: &[u32],
     room: usize,
     words: &mut [u32],
-) -> Outcome {
-    if words.len() < room {
-        return Outcome::NoCase(NO_ROOM);
-    }
-    let a = ask_into::lookup_all(dict, object, run, ends, &mut words[0..room]);
-    listed(a, five(ends.len(), room))
+) -> Result<Outcome, Fault> {
+    let a = ask_into::lookup_all(dict, object, run, ends, room_of(words, room)?);
+    Ok(listed(a, five(ends.len(), room)))
 }
 
 // The dictionary of names, with scratch for the most ends.
@@ -141,54 +154,52 @@ fn assemble(dict: &[u8], bytes: &[u8], pairs: &[u32], room: &mut [u8]) -> Answer
     ask_into::write_object(dict, bytes, pairs, &mut order, &mut spare, room)
 }
 
-fn put_into(kind: usize, one: &[u8], two: &[u8], numbers: &[u32], room: &mut [u8]) -> Answer {
-    if kind == 10 {
-        return compose(one, numbers, room);
-    }
-    assemble(one, two, numbers, room)
-}
-
-// What is written of `one`, `two` and numbers, into room for `n` bytes, which is no more than there are words for its bytes.
+// What is written by `into` room for `n` bytes, which is no more than there are words for its bytes.
 fn written(
-    kind: usize,
-    one: &[u8],
-    two: &[u8],
-    numbers: &[u32],
     n: usize,
     words: &mut [u32],
-) -> Outcome {
-    if words.len() < n {
-        return Outcome::NoCase(NO_ROOM);
-    }
-    if ROOM < n {
-        return Outcome::NoCase(NO_ROOM);
+    into: impl Fn(&mut [u8]) -> Answer,
+) -> Result<Outcome, Fault> {
+    if words.len() < n || ROOM < n {
+        return Err(Fault::NoRoom);
     }
     let mut lent = room::bytes();
     let bytes: &mut [u8] = &mut lent;
-    let a = put_into(kind, one, two, numbers, &mut bytes[0..n]);
-    listed(a, spread(part_of(bytes, 0, a.end), words))
+    let a = into(&mut bytes[0..n]);
+    Ok(listed(a, spread(part_of(bytes, 0, a.end), words)))
 }
 
 // What is asked of the operands that were read.
 fn asked(
-    kind: usize,
+    verb: Verb,
     read: Operands,
     one: &[u8],
     two: &[u8],
     three: &[u8],
     ends: &[u32],
     words: &mut [u32],
-) -> Outcome {
+) -> Result<Outcome, Fault> {
     let one = part_of(one, 0, read.one);
     let two = part_of(two, 0, read.two);
     let three = part_of(three, 0, read.three);
     let ends = first(ends, read.more);
-    match kind {
-        5 => list(one, two, read.number, words),
-        6 => all(one, two, three, ends, read.number, words),
-        10 | 11 => written(kind, one, two, ends, read.number, words),
-        _ => Outcome::Answered(plain(kind, one, two, three, read.number)),
-    }
+    let n = read.number;
+    let answer = match verb {
+        Verb::Dictionary => ask::dictionary(one),
+        Verb::Name => ask::name(one, n),
+        Verb::Layer => ask::layer(one, two),
+        Verb::Lookup => ask::lookup(one, two, three),
+        Verb::List => return list(one, two, n, words),
+        Verb::All => return all(one, two, three, ends, n, words),
+        Verb::Value => ask::value(one),
+        Verb::Tree => ask::tree(one, two),
+        Verb::Path => walk(one, two, three),
+        Verb::Write => return written(n, words, |room: &mut [u8]| compose(one, ends, room)),
+        Verb::WriteObject => {
+            return written(n, words, |room: &mut [u8]| assemble(one, two, ends, room));
+        }
+    };
+    Ok(Outcome::Answered(answer))
 }
 
 // The answer to a line. The bytes and the ends go into the rooms lent, and the words that are filled to the start of `words`.
@@ -199,27 +210,13 @@ pub fn answer(
     three: &mut [u8],
     ends: &mut [u32],
     words: &mut [u32],
-) -> Outcome {
-    let verb = verb_of(line);
-    if verb.kind == 0 {
-        return Outcome::NoCase(UNKNOWN);
+) -> Result<Outcome, Fault> {
+    let Span { start, end } = word(line, 0);
+    let first = &line[start..end];
+    if matches!(first, b"pieces") {
+        return fed::pieces(line, end, one, two);
     }
-    let kind = verb.kind;
-    if kind == 12 {
-        return fed::pieces(line, verb.next, one, two);
-    }
-    let read = operands::read(
-        line,
-        verb.next,
-        rooms(kind),
-        tail(kind),
-        one,
-        two,
-        three,
-        ends,
-    );
-    if read.fault != 0 {
-        return Outcome::NoCase(read.fault);
-    }
-    asked(kind, read, one, two, three, ends, words)
+    let verb = verb_of(first)?;
+    let read = operands::read(line, end, rooms(verb), tail(verb), one, two, three, ends)?;
+    asked(verb, read, one, two, three, ends, words)
 }

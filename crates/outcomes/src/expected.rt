@@ -1,104 +1,57 @@
 // Whether an answer is the one that a text has, written as `write` writes it.
 use crate::Outcome;
 use answers::Answer;
-use operands::ends;
+use operands::{Fault, ends};
 use print::wide;
-use text::{Numeral, number, word};
+use text::{Span, number, word};
 
-// Whether the text has the number, and where it goes on.
-#[derive(Clone, Copy)]
-pub struct Seen {
-    pub same: bool,
-    pub next: usize,
-}
-
-pub fn see(text: &[u8], from: usize, want: usize) -> Seen {
-    let w = word(text, from);
-    let a = w.start;
-    let e = w.end;
-    let n = number(&text[a..e]);
-    match n {
-        Numeral::Of(value) => Seen {
-            same: value == want,
-            next: e,
-        },
-        Numeral::No => Seen {
-            same: false,
-            next: e,
-        },
+// Where the text goes on after the number, if that stands there.
+pub fn see(text: &[u8], from: usize, want: usize) -> Option<usize> {
+    let Span { start, end } = word(text, from);
+    if number(&text[start..end])? == want {
+        Some(end)
+    } else {
+        None
     }
 }
 
-fn see_six(text: &[u8], a: Answer) -> Seen {
-    let code = see(text, 0, a.code);
-    if !code.same {
-        return code;
+// And after numbers, one after another.
+pub fn see_all(text: &[u8], from: usize, wants: &[usize]) -> Option<usize> {
+    let mut at = from;
+    for &want in wants {
+        at = see(text, at, want)?;
     }
-    let number = see(text, code.next, a.number);
-    if !number.same {
-        return number;
-    }
-    let id = see(text, number.next, a.id);
-    if !id.same {
-        return id;
-    }
-    let start = see(text, id.next, a.start);
-    if !start.same {
-        return start;
-    }
-    let end = see(text, start.next, a.end);
-    if !end.same {
-        return end;
-    }
-    see(text, end.next, a.place)
+    Some(at)
 }
 
-fn answered(text: &[u8], a: Answer) -> bool {
-    let six = see_six(text, a);
-    if !six.same {
-        return false;
-    }
-    ends(text, six.next)
+fn see_six(text: &[u8], a: Answer) -> Option<usize> {
+    see_all(text, 0, &[a.code, a.number, a.id, a.start, a.end, a.place])
 }
 
+// Whether the text from `from` on has the words, and no more.
 fn has_words(text: &[u8], from: usize, words: &[u32]) -> bool {
     let mut at = from;
-    for i in 0..words.len() {
-        let seen = see(text, at, wide(words[i]));
-        if !seen.same {
+    for &want in words {
+        let Some(next) = see(text, at, wide(want)) else {
             return false;
-        }
-        at = seen.next;
+        };
+        at = next;
     }
     ends(text, at)
 }
 
 // Whether the text from `from` on has a colon, the first `n` words, and no more.
 pub fn has_filled(text: &[u8], from: usize, words: &[u32], n: usize) -> bool {
-    let colon = word(text, from);
-    let p = colon.start;
-    let q = colon.end;
-    if !check::same(&text[p..q], b":") {
-        return false;
-    }
-    if words.len() < n {
-        return false;
-    }
-    has_words(text, q, &words[0..n])
+    let Span { start, end } = word(text, from);
+    matches!(&text[start..end], b":") && n <= words.len() && has_words(text, end, &words[0..n])
 }
 
-fn listed(text: &[u8], a: Answer, words: &[u32], n: usize) -> bool {
-    let six = see_six(text, a);
-    if !six.same {
-        return false;
-    }
-    has_filled(text, six.next, words, n)
-}
-
-pub fn is(text: &[u8], outcome: Outcome, words: &[u32]) -> bool {
+pub fn is(text: &[u8], outcome: Result<Outcome, Fault>, words: &[u32]) -> bool {
     match outcome {
-        Outcome::Answered(a) => answered(text, a),
-        Outcome::Listed { answer, filled } => listed(text, answer, words, filled),
-        Outcome::NoCase(_) => false,
+        Ok(Outcome::Answered(a)) => see_six(text, a).is_some_and(|next| ends(text, next)),
+        Ok(Outcome::Listed { answer, filled }) => {
+            see_six(text, answer).is_some_and(|next| has_filled(text, next, words, filled))
+        }
+        Err(_) => false,
     }
 }

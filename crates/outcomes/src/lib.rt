@@ -2,6 +2,7 @@
 #![tactic(auto)]
 
 use answers::Answer;
+use operands::Fault;
 use operands::faults::reason;
 use print::{tell, write_words};
 use slices::first;
@@ -13,22 +14,26 @@ pub mod expected;
 pub enum Outcome {
     Answered(Answer),
     Listed { answer: Answer, filled: usize },
-    NoCase(usize),
 }
 
 // An answer as a line has it: six numbers, and where words were filled ` :` and these; or `? ` and why the line is no case. `room` is how
 // many bytes a word of it may spell.
-pub fn write(rt: &impl Print, outcome: Outcome, words: &[u32], room: usize) -> io::Result<()> {
+pub fn write(
+    rt: &impl Print,
+    outcome: Result<Outcome, Fault>,
+    words: &[u32],
+    room: usize,
+) -> io::Result<()> {
     match outcome {
-        Outcome::Answered(a) => answers::write(rt, a),
-        Outcome::Listed { answer, filled } => {
+        Ok(Outcome::Answered(a)) => answers::write(rt, a),
+        Ok(Outcome::Listed { answer, filled }) => {
             answers::write(rt, answer)?;
             tell(rt, b" :")?;
             write_words(rt, first(words, filled))
         }
-        Outcome::NoCase(n) => {
+        Err(fault) => {
             tell(rt, b"? ")?;
-            reason(rt, n, room)
+            reason(rt, fault, room)
         }
     }
 }

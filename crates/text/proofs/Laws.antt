@@ -9,10 +9,9 @@ use borrow.Author.Tests.{ltb-false, lt-ltb, le-ltb, le-leb, lt-leb, eq-eqb, ne_e
 use lib.Dec.{leb, ltb}
 use lib.ListN.{length, drop, get_or, drop_of_length-le, length-drop}
 use lib.Seq.{drop-cons, sets, sets-eq}
-use Rattle.text.specs.declared.Numeral.{Numeral}
-use Rattle.text.specs.declared.Numeral.TheVariants.{Of, No}
-use Rattle.text.specs.Text.{before, within, digit_of, no_digit, pairs, is_dash, Reading, hex_of, decimal, small, number_of}
-use Rattle.text.specs.Text.Reading.{spells, faulty}
+use Rattle.std.specs.Prelude.{Option, None, Some, Ok, Err}
+use Rattle.text.specs.declared.Fault.TheVariants.{Odd, NoDigit, Long}
+use Rattle.text.specs.Text.{before, within, digit_of, no_digit, pairs, is_dash, hex_of, decimal, small, number_of}
 
 -- RUNS
 
@@ -93,11 +92,11 @@ is_digit s e k h = ltb-false 15 _ (none_stops no_digit s e k h)
 -- NUMBERS
 
 module _ (v : ℕ) (s : List ℕ) (i : ℕ) where
-  pub decimal_end : length s ≤ i → decimal v (drop i s) ≡ Of v
+  pub decimal_end : length s ≤ i → decimal v (drop i s) ≡ Some v
   unfolding decimal
   decimal_end h = rw (drop_of_length-le s h)
 
-  pub decimal_stop : i < length s → 9 < digit_of (get_or s i 0) → decimal v (drop i s) ≡ No
+  pub decimal_stop : i < length s → 9 < digit_of (get_or s i 0) → decimal v (drop i s) ≡ None
   unfolding decimal
   decimal_stop h e = rw (drop-cons s i 0 h, lt-ltb 9 (digit_of (get_or s i 0)) e)
 
@@ -106,16 +105,16 @@ module _ (v : ℕ) (s : List ℕ) (i : ℕ) where
   decimal_more h e = rw (drop-cons s i 0 h, le-ltb 9 (digit_of (get_or s i 0)) e, add-one i)
 
 -- more digits make no smaller number
-pub too_large : (s : List ℕ) (v : ℕ) → 4294967295 < v → small (decimal v s) ≡ No
+pub too_large : (s : List ℕ) (v : ℕ) → 4294967295 < v → small (decimal v s) ≡ None
 unfolding decimal
 too_large [] v h = rw (le-ltb v 4294967296 (omega arith))
 too_large (b ∷ s) v h = by (ltb 9 (digit_of b)) _ (too_large s (v * 10 + digit_of b) (omega arith))
   where
-    by : (t : Bool) (n : Numeral) → small n ≡ No → small (cond t No n) ≡ No
+    by : (t : Bool) (n : Option ℕ) → small n ≡ None → small (cond t None n) ≡ None
     by false n e = e
     by true n e = refl
 
-pub no_digits : (s : List ℕ) → length s ≡ 0 → number_of s ≡ No
+pub no_digits : (s : List ℕ) → length s ≡ 0 → number_of s ≡ None
 unfolding number_of
 no_digits [] h = refl
 no_digits (b ∷ s) h = absurd (omega arith)
@@ -166,12 +165,12 @@ no_dash (b ∷ []) h = ne_eqb b 0x2D (λ e. h (ap (λ (x : ℕ). x ∷ []) e))
 no_dash (b ∷ c ∷ s) h = refl
 
 module _ (s : List ℕ) (room : ℕ) where
-  pub hex_dash : s ≡ 0x2D ∷ [] → hex_of s room ≡ spells []
+  pub hex_dash : s ≡ 0x2D ∷ [] → hex_of s room ≡ Ok []
   unfolding hex_of
   hex_dash e = rw e
 
   module _ (other : s ≡ 0x2D ∷ [] → ⊥) where
-    pub hex_odd : (length s % 2 ≡ 0 → ⊥) → hex_of s room ≡ faulty 1
+    pub hex_odd : (length s % 2 ≡ 0 → ⊥) → hex_of s room ≡ Err Odd
     unfolding hex_of
     hex_odd odd = rw (no_dash s other, eq-eqb (length s % 2) 1 (omega arith))
 
@@ -179,16 +178,16 @@ module _ (s : List ℕ) (room : ℕ) where
       no_one : length s % 2 ≡ 1 → ⊥
       no_one h = omega arith
 
-      pub hex_long : room < length s / 2 → hex_of s room ≡ faulty 3
+      pub hex_long : room < length s / 2 → hex_of s room ≡ Err Long
       unfolding hex_of
       hex_long h = rw (no_dash s other, ne_eqb (length s % 2) 1 no_one, lt-ltb room (length s / 2) h)
 
-      pub hex_bad : length s / 2 ≤ room → before no_digit s < length s → hex_of s room ≡ faulty 2
+      pub hex_bad : length s / 2 ≤ room → before no_digit s < length s → hex_of s room ≡ Err NoDigit
       unfolding hex_of
       hex_bad fits h =
           rw (no_dash s other, ne_eqb (length s % 2) 1 no_one, le-ltb room (length s / 2) fits, lt-ltb (before no_digit s) (length s) h)
 
-      pub hex_good : length s / 2 ≤ room → length s ≤ before no_digit s → hex_of s room ≡ spells (pairs s)
+      pub hex_good : length s / 2 ≤ room → length s ≤ before no_digit s → hex_of s room ≡ Ok (pairs s)
       unfolding hex_of
       hex_good fits h =
           rw (no_dash s other, ne_eqb (length s % 2) 1 no_one, le-ltb room (length s / 2) fits, le-ltb (before no_digit s) (length s) h)

@@ -1,11 +1,10 @@
 -- What the code answers, in the words of Text.antt. Assumes nothing.
-use Rattle.std.specs.Prelude.{◌≡◌, Bool, not, List, [], ◌++◌, ℕ, ◌+◌, ◌≤◌, min, eqb, length, drop}
+use Rattle.std.specs.Prelude.{◌≡◌, Bool, not, List, [], ◌++◌, ℕ, ◌+◌, ◌≤◌, min, eqb, length, drop, Result, Ok, Err, IfOk}
 use Rattle.text.specs.declared.Stop.{Stop}
 use Rattle.text.specs.declared.Stop.TheVariants.{Blank, Letter, NoDigit, At}
 use Rattle.text.specs.declared.Span.{Span}
-use Rattle.text.specs.declared.Spelt.{Spelt}
-use Rattle.text.specs.Text.{before, is_blank, no_digit, Reading}
-use Rattle.text.specs.Text.Reading.{spells, faulty}
+use Rattle.text.specs.declared.Fault.{Fault}
+use Rattle.text.specs.Text.{before, is_blank, no_digit}
 
 abbrev pub stops_at : Stop → ℕ → Bool
 stops_at Blank b = is_blank b
@@ -24,18 +23,17 @@ pub record WordOf (s : List ℕ) (from : ℕ) (r : Span) : Type 0 where
   pub end_is : r.end ≡ r.start + before is_blank (drop r.start s)
   pub inside : r.end ≤ length s
 
--- the fault, and 0 for none
-abbrev pub fault_of : Reading → ℕ
-fault_of (spells s) = 0
-fault_of (faulty n) = n
+-- how many bytes are spelt, or the fault
+abbrev pub len_of : Result (List ℕ) Fault → Result ℕ Fault
+len_of (Ok s) = Ok (length s)
+len_of (Err f) = Err f
 
-abbrev pub bytes_of : Reading → List ℕ
-bytes_of (spells s) = s
-bytes_of (faulty n) = []
+abbrev pub bytes_of : Result (List ℕ) Fault → List ℕ
+bytes_of (Ok s) = s
+bytes_of (Err f) = []
 
 -- what was read, and all of the room afterwards: its bytes after those that are spelt stay
-pub record Read (reading : Reading) (room : List ℕ) (r : Spelt) (after : List ℕ) : Type 0 where
-  pub fault_is : r.fault ≡ fault_of reading
-  pub len_is : r.len ≡ length (bytes_of reading)
+pub record Read (reading : Result (List ℕ) Fault) (room : List ℕ) (r : Result ℕ Fault) (after : List ℕ) : Type 0 where
+  pub is : r ≡ len_of reading
   pub room_is : after ≡ bytes_of reading ++ drop (length (bytes_of reading)) room
-  pub fits : r.len ≤ length after
+  pub fits : IfOk r (λ n. n ≤ length after)

@@ -1,8 +1,8 @@
 -- What a line of text says: where a run of bytes ends, the bytes that hex digits spell, the number that decimal digits spell. Each is a plain
 -- function of the text as a list. Assumes nothing.
-use Rattle.std.specs.Prelude.{Bool, false, cond, ◌&&◌, ◌||◌, List, [], ◌∷◌, ℕ, suc, ◌+◌, ◌-◌, ◌*◌, ◌/◌, ◌%◌, eqb, leb, ltb, length}
-use Rattle.text.specs.declared.Numeral.{Numeral}
-use Rattle.text.specs.declared.Numeral.TheVariants.{Of, No}
+use Rattle.std.specs.Prelude.{Bool, false, cond, ◌&&◌, ◌||◌, List, [], ◌∷◌, ℕ, suc, ◌+◌, ◌-◌, ◌*◌, ◌/◌, ◌%◌, eqb, leb, ltb, length, Option, None, Some, Result, Ok, Err}
+use Rattle.text.specs.declared.Fault.{Fault}
+use Rattle.text.specs.declared.Fault.TheVariants.{Odd, NoDigit, Long}
 
 -- RUNS
 
@@ -38,38 +38,33 @@ pairs [] = []
 pairs (a ∷ []) = []
 pairs (a ∷ b ∷ s) = (digit_of a * 16 + digit_of b) ∷ pairs s
 
--- bytes, or the number of a fault
-pub data Reading : Type 0 where
-  spells : List ℕ → Reading
-  faulty : ℕ → Reading
-
 abbrev pub is_dash : List ℕ → Bool
 is_dash [] = false
 is_dash (b ∷ []) = eqb b 0x2D
 is_dash (b ∷ c ∷ s) = false
 
--- into a room of so many bytes. `-` spells none. Then 1 for an odd number of digits, 3 for more bytes than there is room for, 2 for a byte that
+-- into a room of so many bytes. `-` spells none. Then an odd number of digits is a fault, more bytes than there is room for, and a byte that
 -- is no digit
-unfoldable pub hex_of : List ℕ → ℕ → Reading
+unfoldable pub hex_of : List ℕ → ℕ → Result (List ℕ) Fault
 hex_of text room =
-    cond (is_dash text) (spells [])
-    (cond (eqb (length text % 2) 1) (faulty 1)
-    (cond (ltb room (length text / 2)) (faulty 3)
-    (cond (ltb (before no_digit text) (length text)) (faulty 2) (spells (pairs text)))))
+    cond (is_dash text) (Ok [])
+    (cond (eqb (length text % 2) 1) (Err Odd)
+    (cond (ltb room (length text / 2)) (Err Long)
+    (cond (ltb (before no_digit text) (length text)) (Err NoDigit) (Ok (pairs text)))))
 
 -- NUMBERS
 
 -- the number that decimal digits spell after v, where each byte is one
-unfoldable pub decimal : ℕ → List ℕ → Numeral
-decimal v [] = Of v
-decimal v (b ∷ s) = cond (ltb 9 (digit_of b)) No (decimal (v * 10 + digit_of b) s)
+unfoldable pub decimal : ℕ → List ℕ → Option ℕ
+decimal v [] = Some v
+decimal v (b ∷ s) = cond (ltb 9 (digit_of b)) None (decimal (v * 10 + digit_of b) s)
 
 -- below 2^32
-abbrev pub small : Numeral → Numeral
-small (Of v) = cond (ltb v 4294967296) (Of v) No
-small No = No
+abbrev pub small : Option ℕ → Option ℕ
+small (Some v) = cond (ltb v 4294967296) (Some v) None
+small None = None
 
 -- of one digit or more
-unfoldable pub number_of : List ℕ → Numeral
-number_of [] = No
+unfoldable pub number_of : List ℕ → Option ℕ
+number_of [] = None
 number_of (b ∷ s) = small (decimal 0 (b ∷ s))

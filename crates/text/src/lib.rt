@@ -27,16 +27,11 @@ enum Stop {
     At(u8),
 }
 
+#[tactic(auto, unfolding(crate::specs::Text::is_blank))]
 fn is_blank(b: u8) -> bool
     ensures { result ≡ is_blank b }
 {
-    if b == b' ' {
-        return true;
-    }
-    if b == b'\t' {
-        return true;
-    }
-    b == b'\r'
+    matches!(b, b' ' | b'\t' | b'\r')
 }
 
 fn stops(stop: Stop, b: u8) -> bool
@@ -54,17 +49,12 @@ fn stops(stop: Stop, b: u8) -> bool
 fn run(text: &[u8], from: usize, stop: Stop) -> usize
     ensures { Reaches (stops_at stop) text.now from result }
 {
-    if text.len() <= from {
-        return text.len();
-    }
-    let mut i = from;
-    while i < text.len() {
+    for i in from..text.len() {
         if stops(stop, text[i]) {
             return i;
         }
-        i += 1;
     }
-    i
+    text.len()
 }
 
 // Where `b` first stands at or after `from`, or the length.
@@ -90,25 +80,12 @@ pub fn word(text: &[u8], from: usize) -> Span
     Span { start, end }
 }
 
-// What was read: `len` bytes, or which fault there was.
-#[derive(Drop)]
-pub struct Spelt {
-    pub fault: usize,
-    pub len: usize,
-}
-
-const NO_FAULT: usize = 0;
-
-const ODD: usize = 1;
-
-const NO_DIGIT: usize = 2;
-
-const LONG: usize = 3;
-
-fn answer(fault: usize, len: usize) -> Spelt
-    ensures { (result.fault ≡ fault) × (result.len ≡ len) }
-{
-    Spelt { fault, len }
+// Why a word spells no bytes.
+#[derive(Clone, Copy)]
+pub enum Fault {
+    Odd,
+    NoDigit,
+    Long,
 }
 
 // The bytes of the pairs of digits, to the start of `out`, and how many they are.
@@ -118,59 +95,48 @@ fn decode(text: &[u8], out: &mut [u8]) -> usize
     ensures out_after { out.new ≡ sets out.old 0 (pairs text.now) }
 {
     let count = text.len() / 2;
-    let mut n: usize = 0;
-    while n < count {
+    for n in 0..count {
         out[n] = digit(text[2 * n]) * 16 + digit(text[2 * n + 1]);
-        n += 1;
     }
-    n
+    count
 }
 
-// The bytes that the digits of `text` spell, to the start of `out`; `-` spells none. With a fault nothing is written.
-pub fn hex(text: &[u8], out: &mut [u8]) -> Spelt
+// The bytes that the digits of `text` spell, to the start of `out`, and how many they are; `-` spells none. With a fault nothing is written.
+pub fn hex(text: &[u8], out: &mut [u8]) -> Result<usize, Fault>
     ensures { Read (hex_of text.now (length out.old)) out.old result out.new }
 {
     if check::same(text, b"-") {
-        return answer(NO_FAULT, 0);
+        return Ok(0);
     }
     if text.len() % 2 != 0 {
-        return answer(ODD, 0);
+        return Err(Fault::Odd);
     }
     if out.len() < text.len() / 2 {
-        return answer(LONG, 0);
+        return Err(Fault::Long);
     }
     if run(text, 0, Stop::NoDigit) < text.len() {
-        return answer(NO_DIGIT, 0);
+        return Err(Fault::NoDigit);
     }
-    answer(NO_FAULT, decode(text, out))
+    Ok(decode(text, out))
 }
 
-// A number below 2^32, or none.
-#[derive(Drop)]
-pub enum Numeral {
-    Of(usize),
-    No,
-}
-
-// The number that decimal digits spell.
-pub fn number(text: &[u8]) -> Numeral
+// The number that decimal digits spell, below 2^32.
+pub fn number(text: &[u8]) -> Option<usize>
     ensures { result ≡ number_of text.now }
 {
     if text.len() == 0 {
-        return Numeral::No;
+        return None;
     }
     let mut value: usize = 0;
-    let mut i = 0;
-    while i < text.len() {
-        let d = width::wide(digit(text[i]));
+    for &b in text {
+        let d = width::wide(digit(b));
         if 9 < d {
-            return Numeral::No;
+            return None;
         }
         value = value * 10 + d;
         if 0xFFFF_FFFF < value {
-            return Numeral::No;
+            return None;
         }
-        i += 1;
     }
-    Numeral::Of(value)
+    Some(value)
 }
