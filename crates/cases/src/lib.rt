@@ -15,10 +15,11 @@ use answers::Answer;
 use ask_into::STEPS;
 use operands::{Fault, Operands, Tail};
 use outcomes::Outcome;
+use part::Span;
 use print::room;
 use print::room::ROOM;
 use slices::{first, part_of, spread};
-use text::{Span, word};
+use text::word;
 
 // The most ends, or words of pairs, that a program has room for: so many names are sorted with scratch.
 pub const ENDS: usize = 16_384;
@@ -70,12 +71,8 @@ fn tail(verb: Verb) -> Tail {
     match verb {
         Verb::Name | Verb::List => Tail::Number,
         Verb::All | Verb::Write | Verb::WriteObject => Tail::Numbers,
-        Verb::Dictionary
-        | Verb::Layer
-        | Verb::Lookup
-        | Verb::Value
-        | Verb::Tree
-        | Verb::Path => Tail::Nothing,
+        Verb::Dictionary | Verb::Layer | Verb::Lookup | Verb::Value | Verb::Tree | Verb::Path =>
+            Tail::Nothing,
     }
 }
 
@@ -94,20 +91,12 @@ fn listed(answer: Answer, filled: usize) -> Outcome {
     Outcome::Answered(answer)
 }
 
-// How many of `room` words a listing of `fields` fills: three a field.
-fn three(fields: usize, room: usize) -> usize {
-    if room / 3 < fields {
-        return 0;
+// How many of `room` words so many rows fill; none where they have no room.
+fn filled(rows: usize, width: usize, room: usize) -> usize {
+    match rows.checked_mul(width) {
+        Some(n) if n <= room => n,
+        _ => 0,
     }
-    3 * fields
-}
-
-// And a lookup of `names`: five a name.
-fn five(names: usize, room: usize) -> usize {
-    if room / 5 < names {
-        return 0;
-    }
-    5 * names
 }
 
 // The first `room` words.
@@ -118,14 +107,9 @@ fn room_of(words: &mut [u32], room: usize) -> Result<&mut [u32], Fault> {
     Ok(&mut words[0..room])
 }
 
-fn list(
-    dict: &[u8],
-    object: &[u8],
-    room: usize,
-    words: &mut [u32],
-) -> Result<Outcome, Fault> {
+fn list(dict: &[u8], object: &[u8], room: usize, words: &mut [u32]) -> Result<Outcome, Fault> {
     let a = ask_into::list(dict, object, room_of(words, room)?);
-    Ok(listed(a, three(a.number, room)))
+    Ok(listed(a, filled(a.number, 3, room)))
 }
 
 fn all(
@@ -137,7 +121,7 @@ fn all(
     words: &mut [u32],
 ) -> Result<Outcome, Fault> {
     let a = ask_into::lookup_all(dict, object, run, ends, room_of(words, room)?);
-    Ok(listed(a, five(ends.len(), room)))
+    Ok(listed(a, filled(ends.len(), 5, room)))
 }
 
 // The dictionary of names, with scratch for the most ends.

@@ -3,7 +3,8 @@
 
 ghost use Rattle.std.specs.Prelude.{◌≤◌, ◌<◌, min, length, IfOk};
 
-use text::{Span, hex, number, word};
+use part::Span;
+use text::{hex, number, word};
 
 pub mod faults;
 

@@ -2,8 +2,9 @@
 use crate::Outcome;
 use answers::Answer;
 use operands::{Fault, ends};
+use part::Span;
 use print::wide;
-use text::{Span, number, word};
+use text::{number, word};
 
 // Where the text goes on after the number, if that stands there.
 pub fn see(text: &[u8], from: usize, want: usize) -> Option<usize> {

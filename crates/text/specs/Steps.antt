@@ -2,7 +2,7 @@
 use Rattle.std.specs.Prelude.{◌≡◌, Bool, not, List, [], ◌++◌, ℕ, ◌+◌, ◌≤◌, min, eqb, length, drop, Result, Ok, Err, IfOk}
 use Rattle.text.specs.declared.Stop.{Stop}
 use Rattle.text.specs.declared.Stop.TheVariants.{Blank, Letter, NoDigit, At}
-use Rattle.text.specs.declared.Span.{Span}
+use Rattle.part.specs.declared.Span.{Span}
 use Rattle.text.specs.declared.Fault.{Fault}
 use Rattle.text.specs.Text.{before, is_blank, no_digit}
 

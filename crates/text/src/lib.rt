@@ -6,6 +6,8 @@ ghost use Rattle.std.proofs.lemmas.List.Edits.{sets};
 ghost use Rattle.text.specs.Text.{is_blank, digit_of, no_digit, before, pairs, hex_of, number_of};
 ghost use Rattle.text.specs.Steps.{stops_at, Reaches, WordOf, Read};
 
+use part::Span;
+
 // What a hex digit stands for, and 16 for any other byte.
 fn digit(b: u8) -> u8
     ensures { (result ≡ digit_of b) × (result ≤ 16) }
@@ -62,13 +64,6 @@ pub fn find(text: &[u8], from: usize, b: u8) -> usize
     ensures { Reaches (λ x. eqb x b) text.now from result }
 {
     run(text, from, Stop::At(b))
-}
-
-// The part of a text from `start` to `end`.
-#[derive(Clone, Copy)]
-pub struct Span {
-    pub start: usize,
-    pub end: usize,
 }
 
 // The first word at or after `from`; empty at the end where there is none.
