@@ -1,8 +1,10 @@
 -- A part of a text that starts and ends on no byte 80-BF is a text, and two texts that touch are one: so a range that is known to be text
 -- answers for strings that lie in it, and grows by those that touch it. Assumes nothing.
-use Rattle.rules.proofs.Prelude.{◌≡◌, sym, true, false, Bool, List, ◌++◌, ℕ, ◌+◌, ◌-◌, ◌≤◌, ◌<◌, dec_lt, arith, false_true}
+use Rattle.rules.proofs.Prelude.{◌≡◌, sym, List, ◌++◌, ℕ, ◌+◌, ◌-◌, ◌≤◌, ◌<◌, dec_lt, arith, false_true}
 use Rattle.rules.proofs.Prelude.{length, drop, length-drop, take-add, drop-drop}
 use lib.Seq.{take-length, drop-length, get_or-drop}
+use Rattle.std.specs.Prelude.{Result, Ok, Err, is_ok, ⊤}
+use Rattle.part.specs.declared.Span.{Span}
 use Rattle.part.specs.Part.{part}
 use Rattle.part.proofs.Laws.{part_length, part_at, part_part}
 use Rattle.walk.specs.Walk.Items.{none}
@@ -10,13 +12,12 @@ use Rattle.walk.proofs.Laws.{items_append}
 use Rattle.chars.specs.Rfc3629.{Char, Text, Bound, char, LongestText}
 use Rattle.chars.proofs.Laws.{chars, text_whole, longest_is}
 use Rattle.chars.proofs.Bounds.{bound}
-use Rattle.utf8.specs.declared.Verdict.{Verdict}
-use Rattle.utf8.specs.declared.Verdict.TheVariants.{Whole, Cut, Broken}
+use Rattle.utf8.specs.declared.Flaw.{Flaw}
+use Rattle.utf8.specs.declared.Flaw.TheVariants.{Cut, Broken}
 use Rattle.utf8.specs.Utf8.{Judged}
 use Rattle.utf8.specs.Utf8.Judged.{whole, cut, broken}
 use Rattle.utf8.specs.Promises.{CheckPromise}
 use Rattle.utf8.proofs.Judges.{judges}
-use Rattle.texts.specs.declared.Span.{Span}
 use Rattle.texts.specs.Known.{KnownOf, Tells, Starts}
 
 -- A PART OF A TEXT
@@ -87,20 +88,15 @@ pub known_of : (w : List ℕ) (i j : ℕ) → i ≤ j → j ≤ length w → Tex
 known_of w i j p q t = record { rises = p; inside = q; is_text = t }
 
 -- WHAT THE CHECK OF UTF-8 TELLS
-abbrev pub is_whole : Verdict → Bool
-is_whole Whole = true
-is_whole (Cut p) = false
-is_whole (Broken p) = false
-
 -- what has a longest text that is not all of it is none
 no_text : (s : List ℕ) (p : ℕ) → LongestText s p → Text s → ⊥
 no_text s p l t = omega (arith, l.short, longest_is s p l, text_whole s t)
 
 -- so a verdict says whether bytes are text
-pub verdict_tells : (s : List ℕ) (r : Verdict) → CheckPromise s r → Tells s (is_whole r)
+pub verdict_tells : (s : List ℕ) (r : Result ⊤ Flaw) → CheckPromise s r → Tells s (is_ok r)
 verdict_tells s r e = go r ((judges s r).0 e)
   where
-    go : (r : Verdict) → Judged s r → Tells s (is_whole r)
-    go Whole (whole t) = record { if_so = λ _. t; if_not = λ f _. false_true (sym f) }
-    go (Cut p) (cut l b) = record { if_so = λ f. false_true f; if_not = λ _. no_text s p l }
-    go (Broken p) (broken l n) = record { if_so = λ f. false_true f; if_not = λ _. no_text s p l }
+    go : (r : Result ⊤ Flaw) → Judged s r → Tells s (is_ok r)
+    go (Ok _) (whole t) = record { if_so = λ _. t; if_not = λ f _. false_true (sym f) }
+    go (Err (Cut p)) (cut l b) = record { if_so = λ f. false_true f; if_not = λ _. no_text s p l }
+    go (Err (Broken p)) (broken l n) = record { if_so = λ f. false_true f; if_not = λ _. no_text s p l }

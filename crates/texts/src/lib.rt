@@ -7,31 +7,14 @@ ghost use Rattle.part.specs.Part.{part};
 ghost use Rattle.chars.specs.Rfc3629.{Text};
 ghost use Rattle.texts.specs.Known.{KnownOf, Tells, JudgedOf, Starts};
 
-// A range of the whole.
-#[derive(Clone, Copy)]
-pub struct Span {
-    pub start: usize,
-    pub end: usize,
-}
-
-// Text, and the range that is known to be text now; or not.
-#[derive(Drop)]
-pub enum Judged {
-    Text(Span),
-    NotText,
-}
+use part::Span;
 
 // Whether the bytes from i to j are text.
 pub fn is_text(whole: &[u8], i: usize, j: usize) -> bool
     requires { (i ≤ j) × (j ≤ length whole.now) }
     ensures { Tells (part whole.now i j) result }
 {
-    let verdict = utf8::check(&whole[i..j]);
-    match verdict {
-        utf8::Verdict::Whole => true,
-        utf8::Verdict::Cut(_) => false,
-        utf8::Verdict::Broken(_) => false,
-    }
+    utf8::check(&whole[i..j]).is_ok()
 }
 
 // Whether a character starts at i, or the text ends there.
@@ -100,18 +83,18 @@ fn grow_right(whole: &[u8], known: Span, j: usize) -> Span
 }
 
 // Bytes of which the range tells nothing: they are read, and are the range from now on.
-fn check_apart(whole: &[u8], i: usize, j: usize) -> Judged
+fn check_apart(whole: &[u8], i: usize, j: usize) -> Option<Span>
     requires { (i ≤ j) × (j ≤ length whole.now) }
     ensures { JudgedOf whole.now i j result }
 {
     if is_text(whole, i, j) {
-        return Judged::Text(Span { start: i, end: j });
+        return Some(Span { start: i, end: j });
     }
-    Judged::NotText
+    None
 }
 
-// Whether the bytes from i to j are text, by the range where it tells.
-pub fn check(whole: &[u8], i: usize, j: usize, known: Span) -> Judged
+// Whether the bytes from i to j are text, by the range where it tells: the range that is known to be text now; None where they are no text.
+pub fn check(whole: &[u8], i: usize, j: usize, known: Span) -> Option<Span>
     requires { KnownOf whole.now known × (i ≤ j) × (j ≤ length whole.now) }
     ensures { JudgedOf whole.now i j result }
 {
@@ -123,7 +106,7 @@ pub fn check(whole: &[u8], i: usize, j: usize, known: Span) -> Judged
     }
     let grown = grow_right(whole, grow_left(whole, known, i), j);
     if covers(whole, grown, i, j) {
-        return Judged::Text(grown);
+        return Some(grown);
     }
     check_apart(whole, i, j)
 }

@@ -1,5 +1,5 @@
 -- `texts::covers` meets its contract: what lies in the range and cuts no character of it is a text. Assumes nothing.
-use Rattle.rules.proofs.Prelude.{arith, rules, false_true, not-false}
+use Rattle.rules.proofs.Prelude.{arith, rules, false_true}
 use Rattle.texts.proofs.Laws.{text_within}
 use Rattle.texts.proofs.covers.Statement.{statement}
 use Rattle.texts.proofs.covers.Tie as tie
