@@ -1,8 +1,8 @@
 -- The ends pass exactly when all are good, and stop with 45 at k exactly when name k is the first whose end is not. Assumes nothing.
 use Rattle.rules.proofs.Prelude.{◌≡◌, refl, sym, ◌∙◌, ◌↔◌, ◌⊎◌, ⊎_elim, inl, inr, List, ℕ, ◌+◌, ◌≤◌, ◌<◌, add-one, dec_lt, arith, length, Passed, pass, stop, ◌&◌, Meant}
 use Rattle.rules.proofs.Prelude.{by_each, meant_map, meant_pass, meant_stop, each_pass, each_stop, first_at}
-use Rattle.run.specs.declared.Ends.{Ends}
-use Rattle.run.specs.declared.Ends.TheVariants as answers
+use Rattle.std.specs.Prelude.{Result, Ok, Err, ⊤}
+use Rattle.run.specs.declared.BadName.{BadName}
 use Rattle.run.specs.Run.{begin, end, end_rules, checks}
 use Rattle.run.specs.Meaning.{GoodEnd, GoodEnds, BadEnd}
 use Rattle.run.specs.Promises.{found_of, CheckPromise}
@@ -50,17 +50,17 @@ module _ (run ends : List ℕ) where
   )
 
   -- and of what the code returns; the promise fixes it
-  pub check_good : CheckPromise run ends answers.Good ↔ GoodEnds run ends
+  pub check_good : CheckPromise run ends (Ok tt) ↔ GoodEnds run ends
   check_good = (λ p. good.0 (sym p), λ g. sym (good.1 g))
 
-  pub check_bad : (k : ℕ) → CheckPromise run ends (answers.Bad k) ↔ BadEnd run ends k
+  pub check_bad : (k : ℕ) → CheckPromise run ends (Err (record { number = k })) ↔ BadEnd run ends k
   check_bad k = (λ p. (bad k).0 (sym p), λ b. sym ((bad k).1 b))
 
-  pub check_pinned : (r r' : Ends) → CheckPromise run ends r → CheckPromise run ends r' → r ≡ r'
+  pub check_pinned : (r r' : Result ⊤ BadName) → CheckPromise run ends r → CheckPromise run ends r' → r ≡ r'
   check_pinned r r' a b = go r r' (a ∙ sym b)
     where
-      go : (r r' : Ends) → found_of r ≡ found_of r' → r ≡ r'
-      go answers.Good answers.Good e = refl
-      go answers.Good (answers.Bad k) e = let z : ◌≡◌ {A = ℕ} 0 1 = cc in absurd (omega arith)
-      go (answers.Bad k) answers.Good e = let z : ◌≡◌ {A = ℕ} 0 1 = cc in absurd (omega arith)
-      go (answers.Bad k) (answers.Bad j) e = let z : k ≡ j = cc in rw z
+      go : (r r' : Result ⊤ BadName) → found_of r ≡ found_of r' → r ≡ r'
+      go (Ok _) (Ok _) e = refl
+      go (Ok _) (Err k) e = let z : ◌≡◌ {A = ℕ} 0 1 = cc in absurd (omega arith)
+      go (Err k) (Ok _) e = let z : ◌≡◌ {A = ℕ} 0 1 = cc in absurd (omega arith)
+      go (Err k) (Err j) e = let z : k.number ≡ j.number = cc in rw z

@@ -3,14 +3,14 @@
 
 ghost use Rattle.run.specs.Promises.{CheckPromise};
 
-// What the ends are: all good, or the first name whose end falls or passes the run.
-#[derive(Drop)]
-pub enum Ends {
-    Good,
-    Bad(usize),
+// The first name whose end falls or passes the run.
+#[derive(Clone, Copy)]
+pub struct BadName {
+    pub number: usize,
 }
 
-pub fn check(run: &[u8], ends: &[u32]) -> Ends
+// Whether all ends are good.
+pub fn check(run: &[u8], ends: &[u32]) -> Result<(), BadName>
     ensures { CheckPromise run.now ends.now result }
 {
     let mut begin = 0;
@@ -18,13 +18,13 @@ pub fn check(run: &[u8], ends: &[u32]) -> Ends
     while k < ends.len() {
         let end = ends[k] as usize;
         if end < begin {
-            return Ends::Bad(k);
+            return Err(BadName { number: k });
         }
         if run.len() < end {
-            return Ends::Bad(k);
+            return Err(BadName { number: k });
         }
         begin = end;
         k += 1;
     }
-    Ends::Good
+    Ok(())
 }
