@@ -1,5 +1,5 @@
 -- Bytes after the last end are ignored: where the names are good, more bytes after the run change neither that nor any name. Assumes nothing.
-use Rattle.rules.proofs.Prelude.{◌≡◌, List, ◌++◌, ℕ, arith, length, length-append, pass}
+use Rattle.rules.proofs.Prelude.{◌≡◌, List, ◌++◌, ℕ, arith, length-append, pass}
 use Rattle.part.proofs.Laws.{part_append}
 use Rattle.given.specs.Given.{checks}
 use Rattle.given.specs.Meaning.{GoodNames}

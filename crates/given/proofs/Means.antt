@@ -1,11 +1,11 @@
 -- The names pass exactly when all are good, and stop with 45 at k exactly when name k is the first that is not. Assumes nothing.
-use Rattle.rules.proofs.Prelude.{◌≡◌, refl, sym, ◌↔◌, List, ℕ, arith, length, first, each, Passed, Cases, pass, stop, ◌&◌, Meant}
+use Rattle.rules.proofs.Prelude.{◌≡◌, refl, sym, ◌↔◌, List, ℕ, arith, length, first, Passed, Cases, pass, stop, ◌&◌, Meant}
 use Rattle.rules.proofs.Prelude.{by_each, by_rows, meant_map, meant_pass, meant_stop, each_pass, each_stop}
 use Rattle.rules.proofs.Laws.Meant.{all_pass, one_stops}
 use Rattle.rules.proofs.Prelude.{Found}
 use Rattle.chars.proofs.Laws.{text_whole, text_all}
-use Rattle.run.specs.declared.Ends.TheVariants as answers
-use Rattle.run.specs.Run.{end, name, end_rules}
+use Rattle.std.specs.Prelude.{Ok, Err}
+use Rattle.run.specs.Run.{name, end_rules}
 use Rattle.run.specs.Meaning.{GoodEnds}
 use Rattle.given.specs.Given.{name_rules, checks}
 use Rattle.given.specs.Meaning.{GoodName, GoodNames, BadName}
@@ -67,8 +67,8 @@ module _ (run ends : List ℕ) where
   good_ends g k q = record { rises = (g k q).rises; inside = (g k q).inside }
 
   -- and of what the code returns; the promise fixes it
-  pub check_good : CheckPromise run ends answers.Good ↔ GoodNames run ends
+  pub check_good : CheckPromise run ends (Ok tt) ↔ GoodNames run ends
   check_good = (λ p. good.0 (sym p), λ g. sym (good.1 g))
 
-  pub check_bad : (k : ℕ) → CheckPromise run ends (answers.Bad k) ↔ BadName run ends k
+  pub check_bad : (k : ℕ) → CheckPromise run ends (Err (record { number = k })) ↔ BadName run ends k
   check_bad k = (λ p. (bad k).0 (sym p), λ b. sym ((bad k).1 b))

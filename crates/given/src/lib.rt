@@ -4,7 +4,7 @@
 ghost use Rattle.given.specs.Meaning.{SpanIs};
 ghost use Rattle.given.specs.Promises.{CheckPromise};
 
-use run::Ends;
+use run::BadName;
 
 // Whether the bytes from one place to another lie in the run, and are text.
 fn is_good(run: &[u8], from: usize, to: usize) -> bool
@@ -16,14 +16,11 @@ fn is_good(run: &[u8], from: usize, to: usize) -> bool
     if run.len() < to {
         return false;
     }
-    if texts::is_text(run, from, to) {
-        return true;
-    }
-    false
+    texts::is_text(run, from, to)
 }
 
 // The first name whose end falls or passes the run, or that is no text.
-pub fn check(run: &[u8], ends: &[u32]) -> Ends
+pub fn check(run: &[u8], ends: &[u32]) -> Result<(), BadName>
     ensures { CheckPromise run.now ends.now result }
 {
     let mut begin = 0;
@@ -34,8 +31,8 @@ pub fn check(run: &[u8], ends: &[u32]) -> Ends
             begin = end;
             k += 1;
         } else {
-            return Ends::Bad(k);
+            return Err(BadName { number: k });
         }
     }
-    Ends::Good
+    Ok(())
 }
