@@ -1,11 +1,9 @@
 -- What the steps of the header's check answer each other, in the words of Dictionary.antt. Assumes nothing.
-use Rattle.std.specs.Prelude.{◌≡◌, List, ℕ, ◌≤◌}
+use Rattle.std.specs.Prelude.{◌≡◌, List, ℕ, ◌≤◌, Result, Ok, Err}
 use Rattle.rules.specs.Rules.{Found, first, Passed}
 use Rattle.rules.specs.Rules.Found.{stop}
 use Rattle.dictionary.specs.declared.Refusal.{Refusal}
 use Rattle.dictionary.specs.declared.Header.{Header}
-use Rattle.dictionary.specs.declared.Head.{Head}
-use Rattle.dictionary.specs.declared.Head.TheVariants as head
 use Rattle.dictionary.specs.declared.Lead.{Lead}
 use Rattle.dictionary.specs.declared.Places.{Places}
 use Rattle.dictionary.specs.Dictionary.{version, sorted, width, count, start, end, head_rules}
@@ -39,6 +37,6 @@ pub record HeaderOf (d : List ℕ) (h : Header) : Type 0 where
   pub end_is : h.end ≡ end d
   pub rises : h.start ≤ h.end
 
-abbrev pub HeadOf : List ℕ → Head → Type 0
-HeadOf d (head.Refused r) = first (head_rules d) ≡ stop_of r
-HeadOf d (head.Good h) = HeaderOf d h
+abbrev pub HeadOf : List ℕ → Result Header Refusal → Type 0
+HeadOf d (Err r) = first (head_rules d) ≡ stop_of r
+HeadOf d (Ok h) = HeaderOf d h

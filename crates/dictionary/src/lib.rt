@@ -10,7 +10,7 @@ ghost use Rattle.dictionary.specs.Wanted.{WantedPromise};
 pub const LIMIT: usize = 16_777_216;
 
 // One case for each of the refusals 10 to 19, with its place.
-#[derive(Drop)]
+#[derive(Clone, Copy)]
 pub enum Refusal {
     TooLong,
     Empty,
@@ -32,12 +32,6 @@ pub struct Header {
     pub count: usize,
     pub start: usize,
     pub end: usize,
-}
-
-#[derive(Drop)]
-pub enum Head {
-    Refused(Refusal),
-    Good(Header),
 }
 
 // What byte 0 says.
@@ -96,40 +90,40 @@ fn end_of(dict: &[u8], w: usize, p: Places) -> usize
 }
 
 // Checks 10 to 15, and the numbers where they pass.
-pub fn read_header(dict: &[u8]) -> Head
+pub fn read_header(dict: &[u8]) -> Result<Header, Refusal>
     ensures { HeadOf dict.now result }
 {
     if LIMIT < dict.len() {
-        return Head::Refused(Refusal::TooLong);
+        return Err(Refusal::TooLong);
     }
     if dict.len() < 1 {
-        return Head::Refused(Refusal::Empty);
+        return Err(Refusal::Empty);
     }
     let lead = lead_of(dict);
     if lead.version != 1 {
-        return Head::Refused(Refusal::Version);
+        return Err(Refusal::Version);
     }
     if dict.len() < 1 + lead.width {
-        return Head::Refused(Refusal::Short);
+        return Err(Refusal::Short);
     }
     let places = places_of(dict, lead.width);
     if width::U32_MAX < places.start {
-        return Head::Refused(Refusal::Sum);
+        return Err(Refusal::Sum);
     }
     if dict.len() < places.start {
-        return Head::Refused(Refusal::Short);
+        return Err(Refusal::Short);
     }
     if offset_at(dict, lead.width, 0) != 0 {
-        return Head::Refused(Refusal::FirstOffset);
+        return Err(Refusal::FirstOffset);
     }
     let end = end_of(dict, lead.width, places);
     if width::U32_MAX < end {
-        return Head::Refused(Refusal::Sum);
+        return Err(Refusal::Sum);
     }
     if dict.len() < end {
-        return Head::Refused(Refusal::Short);
+        return Err(Refusal::Short);
     }
-    Head::Good(Header {
+    Ok(Header {
         width: lead.width,
         sorted: lead.sorted,
         count: places.count,

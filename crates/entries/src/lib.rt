@@ -13,22 +13,15 @@ ghost use Rattle.entries.specs.Steps.{Reached, EntryOf, found_of};
 
 use dictionary::{Header, Refusal, offset_at};
 
-// A check that answers nothing but its refusal.
-#[derive(Drop)]
-pub enum Outcome {
-    Refused(Refusal),
-    Pass,
-}
-
 // Checks 19 and 16.
-fn check_text(region: &[u8]) -> Outcome
+fn check_text(region: &[u8]) -> Result<(), Refusal>
     ensures { found_of result ≡ first (region_rules region.now) }
 {
     let text = utf8::check(region);
     match text {
-        utf8::Verdict::Whole => Outcome::Pass,
-        utf8::Verdict::Cut(p) => Outcome::Refused(Refusal::CutText(p)),
-        utf8::Verdict::Broken(p) => Outcome::Refused(Refusal::NotUtf8(p)),
+        utf8::Verdict::Whole => Ok(()),
+        utf8::Verdict::Cut(p) => Err(Refusal::CutText(p)),
+        utf8::Verdict::Broken(p) => Err(Refusal::NotUtf8(p)),
     }
 }
 
@@ -72,77 +65,57 @@ fn not_above(region: &[u8], sorted: bool, k: usize, p: usize, a: usize, e: usize
     true
 }
 
-// What the checks of one entry come to: its refusal, or where it ends.
-#[derive(Drop)]
-enum Step {
-    Refused(Refusal),
-    Ends(usize),
-}
-
 // Checks 17 and 18 of entry k, which starts at `a`; `p` is where the one before starts. That `a` cuts no character is known: it was the
 // end of the entry before, or it is 0.
-fn check_entry(dict: &[u8], region: &[u8], h: Header, k: usize, p: usize, a: usize) -> Step
+fn check_entry(dict: &[u8], region: &[u8], h: Header, k: usize, p: usize, a: usize) -> Result<usize, Refusal>
     requires { HeaderOf dict.now h × (region.now ≡ region_of dict.now) × (k < count_of dict.now) × Reached dict.now k p a }
     ensures { EntryOf dict.now k a result }
 {
     let w = h.width;
     let e = offset_at(dict, w, k + 1);
     if out_of_range(region, a, e) {
-        return Step::Refused(Refusal::Range(k));
+        return Err(Refusal::Range(k));
     }
     if not_above(region, h.sorted, k, p, a, e) {
-        return Step::Refused(Refusal::NotAbove(k));
+        return Err(Refusal::NotAbove(k));
     }
-    Step::Ends(e)
+    Ok(e)
 }
 
 // Checks 17 and 18, entry by entry.
-fn check_each(dict: &[u8], region: &[u8], h: Header) -> Outcome
+fn check_each(dict: &[u8], region: &[u8], h: Header) -> Result<(), Refusal>
     requires { HeaderOf dict.now h × (region.now ≡ region_of dict.now) × Text (region_of dict.now) }
     ensures { found_of result ≡ first (each (entry_rules dict.now) (count_of dict.now)) }
 {
-    let count = h.count;
-    let mut k = 0;
     let mut p = 0;
     let mut a = 0;
-    while k < count {
-        let step = check_entry(dict, region, h, k, p, a);
-        match step {
-            Step::Refused(r) => {
-                return Outcome::Refused(r);
-            }
-            Step::Ends(e) => {
-                p = a;
-                a = e;
-                k += 1;
-            }
-        }
+    for k in 0..h.count {
+        let e = check_entry(dict, region, h, k, p, a)?;
+        p = a;
+        a = e;
     }
-    Outcome::Pass
+    Ok(())
 }
 
 // Checks 17 and 18, row by row only where something is flagged.
-fn check_entries(dict: &[u8], region: &[u8], h: Header) -> Outcome
+fn check_entries(dict: &[u8], region: &[u8], h: Header) -> Result<(), Refusal>
     requires { HeaderOf dict.now h × (region.now ≡ region_of dict.now) × Text (region_of dict.now) }
     ensures { found_of result ≡ first (each (entry_rules dict.now) (count_of dict.now)) }
 {
     if flags::flagged(dict, region, h) {
         return check_each(dict, region, h);
     }
-    Outcome::Pass
+    Ok(())
 }
 
 // Checks 16 to 19, after those of the header.
-pub fn check_region(dict: &[u8], h: Header) -> Outcome
+pub fn check_region(dict: &[u8], h: Header) -> Result<(), Refusal>
     requires { HeaderOf dict.now h }
     ensures { found_of result ≡ checks dict.now }
 {
     let start = h.start;
     let end = h.end;
     let region = &dict[start..end];
-    let text = check_text(region);
-    match text {
-        Outcome::Refused(r) => Outcome::Refused(r),
-        Outcome::Pass => check_entries(dict, region, h),
-    }
+    check_text(region)?;
+    check_entries(dict, region, h)
 }

@@ -34,16 +34,12 @@ fn any_suspect(dict: &[u8], region: &[u8], h: Header) -> bool
     requires { HeaderOf dict.now h × (region.now ≡ region_of dict.now) × Text (region_of dict.now) × (h.sorted ≡ false) × (1 ≤ length region.now) }
     ensures { result ≡ false → first (each (entry_rules dict.now) (count_of dict.now)) ≡ pass }
 {
-    let n = h.count;
-    let w = h.width;
     let mut any = false;
-    let mut i = 0;
     let mut from = 0;
-    while i < n {
-        let to = offset_at(dict, w, i + 1);
-        any = any | suspect(region, from, to);
+    for i in 0..h.count {
+        let to = offset_at(dict, h.width, i + 1);
+        any |= suspect(region, from, to);
         from = to;
-        i += 1;
     }
     any
 }

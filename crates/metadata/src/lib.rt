@@ -1,18 +1,19 @@
 // The metadata dictionary: its verdict, a name by entry number, and the empty one (metadata.rs: VariantMetadata).
 #![tactic(auto)]
 
-ghost use Rattle.std.specs.Prelude.{◌<◌};
+ghost use Rattle.std.specs.Prelude.{◌<◌, Ok};
 ghost use Rattle.dictionary.specs.Dictionary.{count as count_of};
 ghost use Rattle.metadata.specs.Steps.{CheckedOf, SpanOf};
 ghost use Rattle.metadata.specs.Promises.{CheckPromise, GetPromise, WriteEmptyPromise};
 
-use dictionary::{Head, Header, Refusal, offset_at, read_header};
-use entries::{Outcome, check_region};
+use dictionary::{Header, Refusal, offset_at, read_header};
+use entries::check_region;
 
-#[derive(Drop)]
-pub enum Verdict {
-    Refused(Refusal),
-    Accepted { count: usize, end: usize },
+// The numbers of a dictionary that is accepted.
+#[derive(Clone, Copy)]
+pub struct Accepted {
+    pub count: usize,
+    pub end: usize,
 }
 
 // Where a name stands, counted from the dictionary's first byte.
@@ -22,53 +23,33 @@ pub struct Span {
     pub end: usize,
 }
 
-#[derive(Drop)]
-pub enum Entry {
-    Refused(Refusal),
-    NoSuchEntry,
-    Named(Span),
-}
-
-#[derive(Drop)]
-pub enum Written {
-    NoRoom,
-    Written,
-}
+// The room was below three bytes.
+#[derive(Clone, Copy)]
+pub struct NoRoom;
 
 // All checks, and the numbers where they pass.
-pub fn checked(dict: &[u8]) -> Head
+pub fn checked(dict: &[u8]) -> Result<Header, Refusal>
     ensures { CheckedOf dict.now result }
 {
-    let head = read_header(dict);
-    match head {
-        Head::Refused(r) => Head::Refused(r),
-        Head::Good(h) => {
-            let rest = check_region(dict, h);
-            match rest {
-                Outcome::Refused(r) => Head::Refused(r),
-                Outcome::Pass => Head::Good(h),
-            }
-        }
-    }
+    let h = read_header(dict)?;
+    check_region(dict, h)?;
+    Ok(h)
 }
 
 // The verdict on a dictionary.
-pub fn check(dict: &[u8]) -> Verdict
+pub fn check(dict: &[u8]) -> Result<Accepted, Refusal>
     ensures { CheckPromise dict.now result }
 {
-    let head = checked(dict);
-    match head {
-        Head::Refused(r) => Verdict::Refused(r),
-        Head::Good(h) => Verdict::Accepted {
-            count: h.count,
-            end: h.end,
-        },
-    }
+    let h = checked(dict)?;
+    Ok(Accepted {
+        count: h.count,
+        end: h.end,
+    })
 }
 
 // Where the name of entry i stands, in a dictionary that was checked. It tests nothing: the object layer calls it for every field.
 pub fn span_of(dict: &[u8], h: Header, i: usize) -> Span
-    requires { CheckedOf dict.now (Head.Good h) × (i < count_of dict.now) }
+    requires { CheckedOf dict.now (Ok h) × (i < count_of dict.now) }
     ensures { SpanOf dict.now i result }
 {
     let w = h.width;
@@ -79,32 +60,24 @@ pub fn span_of(dict: &[u8], h: Header, i: usize) -> Span
     }
 }
 
-// The name of entry number i.
-pub fn get(dict: &[u8], i: usize) -> Entry
+// The name of entry number i, or none where there is no such entry.
+pub fn get(dict: &[u8], i: usize) -> Result<Option<Span>, Refusal>
     ensures { GetPromise dict.now i result }
 {
-    let head = checked(dict);
-    match head {
-        Head::Refused(r) => Entry::Refused(r),
-        Head::Good(h) => {
-            if h.count <= i {
-                return Entry::NoSuchEntry;
-            }
-            Entry::Named(span_of(dict, h, i))
-        }
+    let h = checked(dict)?;
+    if h.count <= i {
+        return Ok(None);
     }
+    Ok(Some(span_of(dict, h, i)))
 }
 
 // The empty dictionary, into the first three bytes of `room`.
-pub fn write_empty(room: &mut [u8]) -> Written
+pub fn write_empty(room: &mut [u8]) -> Result<(), NoRoom>
     ensures { WriteEmptyPromise room.old result room.new }
 {
     if room.len() < 3 {
-        return Written::NoRoom;
+        return Err(NoRoom);
     }
-    let bytes = b"\x01\x00\x00";
-    room[0] = bytes[0];
-    room[1] = bytes[1];
-    room[2] = bytes[2];
-    Written::Written
+    room[0..3].copy_from_slice(b"\x01\x00\x00");
+    Ok(())
 }
