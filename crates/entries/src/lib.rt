@@ -67,7 +67,14 @@ fn not_above(region: &[u8], sorted: bool, k: usize, p: usize, a: usize, e: usize
 
 // Checks 17 and 18 of entry k, which starts at `a`; `p` is where the one before starts. That `a` cuts no character is known: it was the
 // end of the entry before, or it is 0.
-fn check_entry(dict: &[u8], region: &[u8], h: Header, k: usize, p: usize, a: usize) -> Result<usize, Refusal>
+fn check_entry(
+    dict: &[u8],
+    region: &[u8],
+    h: Header,
+    k: usize,
+    p: usize,
+    a: usize,
+) -> Result<usize, Refusal>
     requires { HeaderOf dict.now h × (region.now ≡ region_of dict.now) × (k < count_of dict.now) × Reached dict.now k p a }
     ensures { EntryOf dict.now k a result }
 {

@@ -1,13 +1,14 @@
 -- Bytes added after a dictionary, within the limit, change no answer but 11 and 13: neither the verdict, nor a name by its number, nor `checked`.
 -- With the laws by which each number stays as it is, for the layers above. Assumes nothing.
+use Rattle.std.specs.Prelude.{Result, Ok, Err}
 use Rattle.rules.proofs.Prelude.{◌≡◌, refl, sym, ap, ◌∙◌, Bool, false, ◌||◌, List, [], ◌∷◌, ◌++◌, ℕ, ◌+◌, ◌-◌, ◌*◌, ◌≤◌, ◌<◌, arith, ne_eqb, eqb, length}
 use Rattle.rules.proofs.Prelude.{length-append, List·getD-append, Found, Kept, Stays, accept, code_of, first, each, ◌or_else◌, ◌≤?◌, ◌⇒◌at◌, pass, ◌&◌, passed}
 use Rattle.rules.proofs.Prelude.{both_pass, each_same, kept, same_stays, stays_then, stays_answer}
 use Rattle.width.proofs.Laws.{le_append_at}
 use Rattle.part.proofs.Laws.{part_append}
 use Rattle.dictionary.specs.declared.Refusal.TheVariants.{Empty, Short}
-use Rattle.dictionary.specs.declared.Head.{Head}
-use Rattle.dictionary.specs.declared.Head.TheVariants as head
+use Rattle.dictionary.specs.declared.Refusal.{Refusal}
+use Rattle.dictionary.specs.declared.Header.{Header}
 use Rattle.dictionary.specs.Limits.{limit}
 use Rattle.dictionary.specs.Dictionary.{version, sorted, width, count, offset, start, end, region, name, head_rules, region_rules, entry_rules}
 use Rattle.dictionary.specs.Dictionary.{checks, checks_within, verdict, verdict_within, name_at, name_at_within}
@@ -141,15 +142,15 @@ module _ (d t : List ℕ) where
           let within = passed ((count d ≤? i ⇒ 31 at 0) ∷ []) both.1 in
           rw (start_same (omega arith), offset_same (omega arith) i (omega arith), offset_same (omega arith) (i + 1) (omega arith))
 
-  pub checked_appended : (r r' : Head) → length (d ++ t) ≤ limit → (r ≡ head.Refused Empty → ⊥) → (r ≡ head.Refused Short → ⊥)
+  pub checked_appended : (r r' : Result Header Refusal) → length (d ++ t) ≤ limit → (r ≡ Err Empty → ⊥) → (r ≡ Err Short → ⊥)
       → CheckedOf d r → CheckedOf (d ++ t) r' → r' ≡ r
   unfolding refusal_by head_by
-  checked_appended (head.Refused q) r' l p s a b =
-      let settled = unlifted _ (λ w. p (ap head.Refused (by_number q w))) (λ w. s (ap head.Refused (by_number q w))) in
-      checked_pinned (d ++ t) r' (head.Refused q) b ((rw a at (checks_kept l)) settled)
-  checked_appended (head.Good h) r' l p s a b =
+  checked_appended (Err q) r' l p s a b =
+      let settled = unlifted _ (λ w. p (ap Err (by_number q w))) (λ w. s (ap Err (by_number q w))) in
+      checked_pinned (d ++ t) r' (Err q) b ((rw a at (checks_kept l)) settled)
+  checked_appended (Ok h) r' l p s a b =
       let passes : checks (d ++ t) ≡ pass = rw a.1 at (checks_kept l) in
       let g = good d a.1 in
       sym (head_is (d ++ t) r' b)
       ∙ rw (passes, width_same (omega arith), sorted_same (omega arith), count_same (omega arith), start_same (omega arith), end_same (omega arith))
-      (rw a.1 at (head_is d (head.Good h) a))
+      (rw a.1 at (head_is d (Ok h) a))

@@ -1,19 +1,15 @@
 -- Each public call's promise fixes its whole answer, and the lent room after it: two answers that meet it are equal. Each answer is read back
 -- out of document 01's numbers, so no two cases have the same. Assumes nothing.
+use Rattle.std.specs.Prelude.{Result, Ok, Err, Option, Some, None, ⊤}
 use Rattle.rules.proofs.Prelude.{◌≡◌, refl, sym, ap, ◌∙◌, cond, List, ℕ, ◌+◌, eqb, get_or, Answer, Found, gives, pass, stop}
+use Rattle.dictionary.specs.declared.Header.{Header}
 use Rattle.dictionary.specs.declared.Refusal.{Refusal}
 use Rattle.dictionary.specs.declared.Refusal.TheVariants.{TooLong, Empty, Version, Short, Sum, FirstOffset, NotUtf8, Range, NotAbove, CutText}
-use Rattle.dictionary.specs.declared.Head.{Head}
-use Rattle.dictionary.specs.declared.Head.TheVariants as head
 use Rattle.dictionary.specs.Dictionary.{sorted, width, count, offset, start, end, checks}
 use Rattle.dictionary.specs.Answers.{refusal_number, refusal_place}
-use Rattle.metadata.specs.declared.Span.{Span}
-use Rattle.metadata.specs.declared.Verdict.{Verdict}
-use Rattle.metadata.specs.declared.Verdict.TheVariants as verdict
-use Rattle.metadata.specs.declared.Entry.{Entry}
-use Rattle.metadata.specs.declared.Entry.TheVariants as entry
-use Rattle.metadata.specs.declared.Written.{Written}
-use Rattle.metadata.specs.declared.Written.TheVariants as written
+use Rattle.part.specs.declared.Span.{Span}
+use Rattle.metadata.specs.declared.Accepted.{Accepted}
+use Rattle.metadata.specs.declared.NoRoom.{NoRoom}
 use Rattle.metadata.specs.Answers.{verdict_numbers, entry_numbers, written_numbers}
 use Rattle.metadata.specs.Steps.{CheckedOf, SpanOf}
 use Rattle.metadata.specs.Promises.{CheckPromise, GetPromise, WriteEmptyPromise}
@@ -55,66 +51,66 @@ pub by_back : {A B : Type 0} (f : A → B) (back : B → A) → ((a : A) → bac
 by_back f back is a b e = sym (is a) ∙ ap back e ∙ is b
 
 -- ANSWERS
-verdict_back : Answer → Verdict
-verdict_back (gives c v p) = refusal_by verdict.Refused (verdict.Accepted (get_or v 0 0) (get_or v 1 0)) c p
+verdict_back : Answer → Result Accepted Refusal
+verdict_back (gives c v p) = refusal_by Err (Ok (record { count = get_or v 0 0; end = get_or v 1 0 })) c p
 
-verdict_back_law : (v : Verdict) → verdict_back (verdict_numbers v) ≡ v
+verdict_back_law : (v : Result Accepted Refusal) → verdict_back (verdict_numbers v) ≡ v
 unfolding verdict_back refusal_by
-verdict_back_law (verdict.Refused r) = refusal_back verdict.Refused _ r
-verdict_back_law (verdict.Accepted n e) = refl
+verdict_back_law (Err r) = refusal_back Err _ r
+verdict_back_law (Ok a) = refl
 
-pub verdict_injective : (v u : Verdict) → verdict_numbers v ≡ verdict_numbers u → v ≡ u
+pub verdict_injective : (v u : Result Accepted Refusal) → verdict_numbers v ≡ verdict_numbers u → v ≡ u
 verdict_injective = by_back verdict_numbers verdict_back verdict_back_law
 
-entry_back : Answer → Entry
+entry_back : Answer → Result (Option Span) Refusal
 entry_back (gives c v p) =
-    refusal_by entry.Refused (cond (eqb c 31) entry.NoSuchEntry (entry.Named (record { start = get_or v 0 0; end = get_or v 1 0 }))) c p
+    refusal_by Err (cond (eqb c 31) (Ok None) (Ok (Some (record { start = get_or v 0 0; end = get_or v 1 0 })))) c p
 
-entry_back_law : (v : Entry) → entry_back (entry_numbers v) ≡ v
+entry_back_law : (v : Result (Option Span) Refusal) → entry_back (entry_numbers v) ≡ v
 unfolding entry_back refusal_by
-entry_back_law (entry.Refused r) = refusal_back entry.Refused _ r
-entry_back_law entry.NoSuchEntry = refl
-entry_back_law (entry.Named s) = refl
+entry_back_law (Err r) = refusal_back Err _ r
+entry_back_law (Ok None) = refl
+entry_back_law (Ok (Some s)) = refl
 
-pub entry_injective : (v u : Entry) → entry_numbers v ≡ entry_numbers u → v ≡ u
+pub entry_injective : (v u : Result (Option Span) Refusal) → entry_numbers v ≡ entry_numbers u → v ≡ u
 entry_injective = by_back entry_numbers entry_back entry_back_law
 
-written_back : Answer → Written
-written_back (gives c v p) = cond (eqb c 42) written.NoRoom written.Written
+written_back : Answer → Result ⊤ NoRoom
+written_back (gives c v p) = cond (eqb c 42) (Err (record {})) (Ok tt)
 
-written_back_law : (v : Written) → written_back (written_numbers v) ≡ v
+written_back_law : (v : Result ⊤ NoRoom) → written_back (written_numbers v) ≡ v
 unfolding written_back
-written_back_law written.NoRoom = refl
-written_back_law written.Written = refl
+written_back_law (Err _) = refl
+written_back_law (Ok _) = refl
 
-pub written_injective : (v u : Written) → written_numbers v ≡ written_numbers u → v ≡ u
+pub written_injective : (v u : Result ⊤ NoRoom) → written_numbers v ≡ written_numbers u → v ≡ u
 written_injective = by_back written_numbers written_back written_back_law
 
 -- NUMBERS HANDED ON: the one head and the one span that meet their promise
-unfoldable pub head_by : List ℕ → Found → Head
-head_by d (stop c p) = refusal_by head.Refused (head.Refused TooLong) c p
-head_by d pass = head.Good (record { width = width d; sorted = sorted d; count = count d; start = start d; end = end d })
+unfoldable pub head_by : List ℕ → Found → Result Header Refusal
+head_by d (stop c p) = refusal_by Err (Err TooLong) c p
+head_by d pass = Ok (record { width = width d; sorted = sorted d; count = count d; start = start d; end = end d })
 
-pub head_is : (d : List ℕ) (r : Head) → CheckedOf d r → head_by d (checks d) ≡ r
+pub head_is : (d : List ℕ) (r : Result Header Refusal) → CheckedOf d r → head_by d (checks d) ≡ r
 unfolding head_by
-head_is d (head.Refused r) e = rw e (refusal_back head.Refused (head.Refused TooLong) r)
-head_is d (head.Good h) (o, e) = rw (e, ← o.width_is, ← o.sorted_is, ← o.count_is, ← o.start_is, ← o.end_is)
+head_is d (Err r) e = rw e (refusal_back Err (Err TooLong) r)
+head_is d (Ok h) (o, e) = rw (e, ← o.width_is, ← o.sorted_is, ← o.count_is, ← o.start_is, ← o.end_is)
 
 span_is : (d : List ℕ) (i : ℕ) (r : Span) → SpanOf d i r → record { start = start d + offset d i; end = start d + offset d (i + 1) } ≡ r
 span_is d i r o = rw (← o.start_is, ← o.end_is)
 
 -- THE THEOREMS, a call each
-pub check_pinned : (d : List ℕ) (r q : Verdict) → CheckPromise d r → CheckPromise d q → r ≡ q
+pub check_pinned : (d : List ℕ) (r q : Result Accepted Refusal) → CheckPromise d r → CheckPromise d q → r ≡ q
 check_pinned d r q a b = verdict_injective r q (a ∙ sym b)
 
-pub get_pinned : (d : List ℕ) (i : ℕ) (r q : Entry) → GetPromise d i r → GetPromise d i q → r ≡ q
+pub get_pinned : (d : List ℕ) (i : ℕ) (r q : Result (Option Span) Refusal) → GetPromise d i r → GetPromise d i q → r ≡ q
 get_pinned d i r q a b = entry_injective r q (a ∙ sym b)
 
-pub checked_pinned : (d : List ℕ) (r q : Head) → CheckedOf d r → CheckedOf d q → r ≡ q
+pub checked_pinned : (d : List ℕ) (r q : Result Header Refusal) → CheckedOf d r → CheckedOf d q → r ≡ q
 checked_pinned d r q a b = sym (head_is d r a) ∙ head_is d q b
 
 pub span_pinned : (d : List ℕ) (i : ℕ) (r q : Span) → SpanOf d i r → SpanOf d i q → r ≡ q
 span_pinned d i r q a b = sym (span_is d i r a) ∙ span_is d i q b
 
-pub empty_pinned : (room : List ℕ) (r q : Written) (after after' : List ℕ) → WriteEmptyPromise room r after → WriteEmptyPromise room q after' → (r ≡ q) × (after ≡ after')
+pub empty_pinned : (room : List ℕ) (r q : Result ⊤ NoRoom) (after after' : List ℕ) → WriteEmptyPromise room r after → WriteEmptyPromise room q after' → (r ≡ q) × (after ≡ after')
 empty_pinned room r q after after' a b = (written_injective r q (a.answers ∙ sym b.answers), a.leaves ∙ sym b.leaves)

@@ -1,11 +1,13 @@
 -- What the limit decides (document 02, request d): a dictionary within two limits gets the same answers under both, by the definitions and by
 -- whatever meets a promise under the one or the other; past a limit the answer is 10. A call's own promise is the one under `limit`: so a raise
 -- changes nothing inside the old limit. Assumes nothing.
+use Rattle.std.specs.Prelude.{Result, Option}
 use Rattle.rules.proofs.Prelude.{◌≡◌, sym, ◌∙◌, List, ℕ, ◌≤◌, ◌<◌, arith, le-ltb, length, refuse, first, stop, first_at, stops, refused}
 use Rattle.dictionary.specs.Limits.{limit}
 use Rattle.dictionary.specs.Dictionary.{head_rules_within, checks_within, verdict_within, name_at_within}
-use Rattle.metadata.specs.declared.Verdict.{Verdict}
-use Rattle.metadata.specs.declared.Entry.{Entry}
+use Rattle.part.specs.declared.Span.{Span}
+use Rattle.dictionary.specs.declared.Refusal.{Refusal}
+use Rattle.metadata.specs.declared.Accepted.{Accepted}
 use Rattle.metadata.specs.Answers.{verdict_numbers, entry_numbers}
 use Rattle.metadata.specs.Promises.{CheckPromise}
 use Rattle.metadata.proofs.Pinned.{verdict_injective, entry_injective}
@@ -29,10 +31,10 @@ module _ (a b : ℕ) (d : List ℕ) (in-a : length d ≤ a) (in_b : length d ≤
   name_alike i = rw checks_alike
 
   -- the answers of the calls
-  pub check_alike : (r q : Verdict) → verdict_numbers r ≡ verdict_within a d → verdict_numbers q ≡ verdict_within b d → r ≡ q
+  pub check_alike : (r q : Result Accepted Refusal) → verdict_numbers r ≡ verdict_within a d → verdict_numbers q ≡ verdict_within b d → r ≡ q
   check_alike r q x y = verdict_injective r q (x ∙ verdict_alike ∙ sym y)
 
-  pub get_alike : (i : ℕ) (r q : Entry) → entry_numbers r ≡ name_at_within a d i → entry_numbers q ≡ name_at_within b d i → r ≡ q
+  pub get_alike : (i : ℕ) (r q : Result (Option Span) Refusal) → entry_numbers r ≡ name_at_within a d i → entry_numbers q ≡ name_at_within b d i → r ≡ q
   get_alike i r q x y = entry_injective r q (x ∙ name_alike i ∙ sym y)
 
 -- THE RAISE: the base read up to 65,536 bytes
@@ -40,7 +42,7 @@ pub raised : 65536 ≤ limit
 unfolding limit
 raised = omega arith
 
-pub check_as_before : (d : List ℕ) → length d ≤ 65536 → (was is : Verdict) → verdict_numbers was ≡ verdict_within 65536 d → CheckPromise d is → was ≡ is
+pub check_as_before : (d : List ℕ) → length d ≤ 65536 → (was is : Result Accepted Refusal) → verdict_numbers was ≡ verdict_within 65536 d → CheckPromise d is → was ≡ is
 check_as_before d inside = check_alike 65536 limit d inside (omega (arith, raised))
 
 -- PAST A LIMIT

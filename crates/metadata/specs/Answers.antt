@@ -1,7 +1,7 @@
 -- Document 01's number, values and place for each case of the answers. Assumes nothing.
 use Rattle.std.specs.Prelude.{[], ◌∷◌, Result, Ok, Err, Option, Some, None, ⊤}
 use Rattle.rules.specs.Rules.{Answer, refuse, accept}
-use Rattle.metadata.specs.declared.Span.{Span}
+use Rattle.part.specs.declared.Span.{Span}
 use Rattle.dictionary.specs.declared.Refusal.{Refusal}
 use Rattle.dictionary.specs.Answers.{refused}
 use Rattle.metadata.specs.declared.Accepted.{Accepted}

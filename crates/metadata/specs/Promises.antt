@@ -4,7 +4,7 @@ use Rattle.std.specs.Prelude.{◌≡◌, List, ℕ, Result, Option, ⊤}
 use Rattle.dictionary.specs.Dictionary.{verdict, name_at, emptied, room_after}
 use Rattle.dictionary.specs.declared.Refusal.{Refusal}
 use Rattle.metadata.specs.declared.Accepted.{Accepted}
-use Rattle.metadata.specs.declared.Span.{Span}
+use Rattle.part.specs.declared.Span.{Span}
 use Rattle.metadata.specs.declared.NoRoom.{NoRoom}
 use Rattle.metadata.specs.Answers.{verdict_numbers, entry_numbers, written_numbers}
 

@@ -6,7 +6,7 @@ use Rattle.dictionary.specs.declared.Refusal.{Refusal}
 use Rattle.dictionary.specs.declared.Header.{Header}
 use Rattle.dictionary.specs.Dictionary.{offset, start, name, checks}
 use Rattle.dictionary.specs.Steps.{stop_of, HeaderOf}
-use Rattle.metadata.specs.declared.Span.{Span}
+use Rattle.part.specs.declared.Span.{Span}
 
 -- all checks
 abbrev pub CheckedOf : List ℕ → Result Header Refusal → Type 0

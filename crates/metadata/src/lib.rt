@@ -8,18 +8,12 @@ ghost use Rattle.metadata.specs.Promises.{CheckPromise, GetPromise, WriteEmptyPr
 
 use dictionary::{Header, Refusal, offset_at, read_header};
 use entries::check_region;
+use part::Span;
 
 // The numbers of a dictionary that is accepted.
 #[derive(Clone, Copy)]
 pub struct Accepted {
     pub count: usize,
-    pub end: usize,
-}
-
-// Where a name stands, counted from the dictionary's first byte.
-#[derive(Clone, Copy)]
-pub struct Span {
-    pub start: usize,
     pub end: usize,
 }
 
@@ -40,10 +34,10 @@ pub fn checked(dict: &[u8]) -> Result<Header, Refusal>
 pub fn check(dict: &[u8]) -> Result<Accepted, Refusal>
     ensures { CheckPromise dict.now result }
 {
-    let h = checked(dict)?;
+    let header = checked(dict)?;
     Ok(Accepted {
-        count: h.count,
-        end: h.end,
+        count: header.count,
+        end: header.end,
     })
 }
 

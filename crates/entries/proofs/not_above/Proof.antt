@@ -1,5 +1,5 @@
 -- `entries::not_above` meets its contract: each return is one way for the test to hold or fail. Assumes nothing.
-use Rattle.rules.proofs.Prelude.{sym, ◌∙◌, not-true, not-false, arith, rules, false_true}
+use Rattle.rules.proofs.Prelude.{sym, ◌∙◌, arith, rules, false_true}
 use Rattle.entries.proofs.not_above.Statement.{statement}
 use Rattle.entries.proofs.not_above.Tie as tie
 
