@@ -1,5 +1,5 @@
 -- The table of the bytes that are wanted, by its rows. Assumes nothing.
-use Rattle.rules.proofs.Prelude.{◌≡◌, ap, List, ℕ, Passed, first, first_at, first_pass}
+use Rattle.rules.proofs.Prelude.{◌≡◌, ap, List, ℕ, Passed, first_at, first_pass}
 use Rattle.rules.specs.Rules.{At, refusal_at}
 use Rattle.dictionary.specs.Wanted.{wanted_rules, asked, wanted}
 

@@ -1,4 +1,5 @@
 -- Where the dictionary's numbers stand, and by which table its checks are settled. Assumes nothing.
+use Rattle.std.specs.Prelude.{Result, Ok, Err, ⊤}
 use Rattle.rules.proofs.Prelude.{◌≡◌, refl, sym, ◌∙◌, Bool, true, false, cond, List, ℕ, ◌+◌, ◌-◌, ◌*◌, ◌≤◌, mul-le-mul_left, arith, ltb, length, Found, first, each, Passed, Fails}
 use Rattle.rules.proofs.Prelude.{◌or_else◌, pass, stop, first_pass, passed, stops, goes, unless, false_true, ◌&◌}
 use Rattle.part.specs.Part.{part}
@@ -6,10 +7,11 @@ use Rattle.part.proofs.Laws.{part_length, part_part}
 use Rattle.chars.specs.Rfc3629.{Text, text_up_to}
 use Rattle.chars.proofs.Laws.{text_all}
 use Rattle.chars.proofs.Bounds.{text_first}
-use Rattle.utf8.specs.declared.Verdict.{Verdict}
-use Rattle.utf8.specs.declared.Verdict.TheVariants.{Whole, Cut, Broken}
+use Rattle.utf8.specs.declared.Flaw.{Flaw}
+use Rattle.utf8.specs.declared.Flaw.TheVariants.{Cut, Broken}
 use Rattle.utf8.specs.Utf8.{is_cut, verdict}
 use Rattle.dictionary.specs.Dictionary.{head_rules, region_rules, entry_rows, entry_rules, checks, checks_within, sorted, width, count, offset, start, end, region, name, cuts, outside}
+use Rattle.dictionary.specs.Steps.{stop_of, of_text}
 
 -- PLACES
 
@@ -52,16 +54,15 @@ pub uncut_zero : (r : List ℕ) → Text r → Fails (cuts r 0)
 uncut_zero r t = unless (cuts r 0) (λ h. text_first t h.0 h.1)
 
 -- the region's table says what the text's verdict is
-abbrev pub found_in : Verdict → Found
-found_in Whole = pass
-found_in (Cut p) = stop 19 p
-found_in (Broken p) = stop 16 p
+abbrev pub found_in : Result ⊤ Flaw → Found
+found_in (Ok _) = pass
+found_in (Err flaw) = stop_of (of_text flaw)
 
 pub by_text : (r : List ℕ) → first (region_rules r) ≡ found_in (verdict r)
 unfolding first verdict
 by_text r = go (is_cut r) (ltb (text_up_to r) (length r))
   where
-    go : (a b : Bool) → cond a (stop 19 (text_up_to r)) (cond b (stop 16 (text_up_to r)) pass) ≡ found_in (cond a (Cut (text_up_to r)) (cond b (Broken (text_up_to r)) Whole))
+    go : (a b : Bool) → cond a (stop 19 (text_up_to r)) (cond b (stop 16 (text_up_to r)) pass) ≡ found_in (cond a (Err (Cut (text_up_to r))) (cond b (Err (Broken (text_up_to r))) (Ok tt)))
     go true b = refl
     go false true = refl
     go false false = refl

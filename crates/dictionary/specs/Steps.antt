@@ -2,7 +2,10 @@
 use Rattle.std.specs.Prelude.{◌≡◌, List, ℕ, ◌≤◌, Result, Ok, Err}
 use Rattle.rules.specs.Rules.{Found, first, Passed}
 use Rattle.rules.specs.Rules.Found.{stop}
+use Rattle.utf8.specs.declared.Flaw.{Flaw}
+use Rattle.utf8.specs.declared.Flaw.TheVariants.{Cut, Broken}
 use Rattle.dictionary.specs.declared.Refusal.{Refusal}
+use Rattle.dictionary.specs.declared.Refusal.TheVariants.{NotUtf8, CutText}
 use Rattle.dictionary.specs.declared.Header.{Header}
 use Rattle.dictionary.specs.declared.Lead.{Lead}
 use Rattle.dictionary.specs.declared.Places.{Places}
@@ -11,6 +14,11 @@ use Rattle.dictionary.specs.Answers.{refusal_number, refusal_place}
 
 abbrev pub stop_of : Refusal → Found
 stop_of r = stop (refusal_number r) (refusal_place r)
+
+-- what is wrong with the region's text
+abbrev pub of_text : Flaw → Refusal
+of_text (Cut p) = CutText p
+of_text (Broken p) = NotUtf8 p
 
 -- byte 0
 pub record LeadOf (d : List ℕ) (l : Lead) : Type 0 where

@@ -3,7 +3,7 @@
 
 ghost use Rattle.std.specs.Prelude.{◌≡◌, ◌+◌, ◌≤◌, ◌<◌, length};
 ghost use Rattle.dictionary.specs.Dictionary.{width as width_of, count as count_of, start as start_of, end as end_of, offset as offset_of};
-ghost use Rattle.dictionary.specs.Steps.{LeadOf, PlacesOf, HeadOf};
+ghost use Rattle.dictionary.specs.Steps.{LeadOf, PlacesOf, HeadOf, of_text};
 ghost use Rattle.dictionary.specs.Wanted.{WantedPromise};
 
 // The longest dictionary or object that is read.
@@ -22,6 +22,18 @@ pub enum Refusal {
     Range(usize),
     NotAbove(usize),
     CutText(usize),
+}
+
+// What is wrong with the region's text, as the dictionary's refusal.
+impl From<utf8::Flaw> for Refusal {
+    ghost from_gives = { λ flaw r. r ≡ of_text flaw };
+
+    fn from(flaw: utf8::Flaw) -> Refusal {
+        match flaw {
+            utf8::Flaw::Cut(p) => Refusal::CutText(p),
+            utf8::Flaw::Broken(p) => Refusal::NotUtf8(p),
+        }
+    }
 }
 
 // The numbers that the first bytes hold, handed on by value so that nothing is parsed twice.

@@ -7,23 +7,11 @@ ghost use Rattle.chars.specs.Rfc3629.{Text};
 ghost use Rattle.names.specs.Order.{below};
 ghost use Rattle.rules.specs.Rules.{first, each, Says};
 ghost use Rattle.rules.specs.Rules.Test.{is, isn't, ◌<?◌, ◌and◌};
-ghost use Rattle.dictionary.specs.Dictionary.{count as count_of, region as region_of, outside, region_rules, entry_rules, checks};
+ghost use Rattle.dictionary.specs.Dictionary.{count as count_of, region as region_of, outside, entry_rules, checks};
 ghost use Rattle.dictionary.specs.Steps.{HeaderOf};
 ghost use Rattle.entries.specs.Steps.{Reached, EntryOf, found_of};
 
 use dictionary::{Header, Refusal, offset_at};
-
-// Checks 19 and 16.
-fn check_text(region: &[u8]) -> Result<(), Refusal>
-    ensures { found_of result ≡ first (region_rules region.now) }
-{
-    let text = utf8::check(region);
-    match text {
-        utf8::Verdict::Whole => Ok(()),
-        utf8::Verdict::Cut(p) => Err(Refusal::CutText(p)),
-        utf8::Verdict::Broken(p) => Err(Refusal::NotUtf8(p)),
-    }
-}
 
 // Whether the offsets `a` and `e` of an entry fall, pass the region, or the second cuts a character.
 fn out_of_range(region: &[u8], a: usize, e: usize) -> bool
@@ -120,9 +108,7 @@ pub fn check_region(dict: &[u8], h: Header) -> Result<(), Refusal>
     requires { HeaderOf dict.now h }
     ensures { found_of result ≡ checks dict.now }
 {
-    let start = h.start;
-    let end = h.end;
-    let region = &dict[start..end];
-    check_text(region)?;
+    let region = &dict[h.start..h.end];
+    utf8::check(region)?;
     check_entries(dict, region, h)
 }

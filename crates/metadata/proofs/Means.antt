@@ -1,10 +1,11 @@
 -- What the checks come to, row by row: where all pass, the rules of an accepted dictionary hold; where one stops, that refusal is due.
 -- Accepts.antt and Refuses.antt draw their theorems from it. Assumes nothing.
+use Rattle.std.specs.Prelude.{Result, ⊤}
 use Rattle.rules.proofs.Prelude.{◌≡◌, refl, sym, ap, ◌∙◌, List, ℕ, ◌+◌, ◌-◌, ◌<◌, arith, Test, Fails, Passed, first, each, ◌or◌, ◌or_else◌, pass, ◌&◌, false_true, unless}
 use Rattle.rules.proofs.Prelude.{never, goes, Meant, Cases, by_rows, by_each, meant_then, meant_map, meant_pass}
 use Rattle.rules.proofs.Laws.Meant.{all_pass, one_stops}
 use Rattle.part.specs.Part.{part}
-use Rattle.utf8.specs.declared.Verdict.{Verdict}
+use Rattle.utf8.specs.declared.Flaw.{Flaw}
 use Rattle.utf8.specs.Utf8.{Judged}
 use Rattle.utf8.specs.Utf8.Judged.{whole, cut, broken}
 use Rattle.utf8.proofs.Judges.{judged, judges}
@@ -42,13 +43,13 @@ module _ (d : List ℕ) where
   region_means : Headed d → Meant (Texted d) (Refusal d) (first (region_rules (region d)))
   region_means headed = rw (by_text (region d)) (go (judged (region d)))
     where
-      go : {v : Verdict} → Judged (region d) v → Meant (Texted d) (Refusal d) (found_in v)
+      go : {v : Result ⊤ Flaw} → Judged (region d) v → Meant (Texted d) (Refusal d) (found_in v)
       go (whole t) = all_pass (record { headed = headed; is_text = t })
       go (cut l b) = one_stops (cut_text headed l b)
       go (broken l n) = one_stops (no_text headed l n)
 
   -- what the region is decides, where the header passes
-  pub by_judged : Headed d → {v : Verdict} → Judged (region d) v → checks d ≡ (found_in v or_else first (each (entry_rules d) (count d)))
+  pub by_judged : Headed d → {v : Result ⊤ Flaw} → Judged (region d) v → checks d ≡ (found_in v or_else first (each (entry_rules d) (count d)))
   by_judged h {v} j = by_region d (head_passed h) (by_text (region d) ∙ ap found_in (sym ((judges (region d) v).1 j)))
 
   -- and then the entries decide

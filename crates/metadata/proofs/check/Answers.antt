@@ -1,6 +1,6 @@
 -- `metadata::check` meets its contract: the numbers of the checked header. Assumes nothing.
 use Rattle.std.proofs.lemmas.Result.{err_from_is_err_and}
-use Rattle.rules.proofs.Prelude.{sym, rules, refused}
+use Rattle.rules.proofs.Prelude.{sym, refused}
 use Rattle.dictionary.specs.Dictionary.{verdict_within}
 use Rattle.metadata.proofs.Accepts.{accepts}
 use Rattle.metadata.proofs.Says.{checked_good}

@@ -1,6 +1,6 @@
 -- `metadata::checked` meets its contract: the header's checks, then those of the region. Assumes nothing.
 use Rattle.std.proofs.lemmas.Result.{err_from_is_err_and}
-use Rattle.rules.proofs.Prelude.{sym, rules}
+use Rattle.rules.proofs.Prelude.{sym}
 use Rattle.dictionary.proofs.Laws.{by_head}
 use Rattle.metadata.proofs.checked.Goals as goal
 

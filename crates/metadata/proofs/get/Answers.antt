@@ -1,6 +1,6 @@
 -- `metadata::get` meets its contract: the dictionary's refusal, then 31, then the span. Assumes nothing.
 use Rattle.std.proofs.lemmas.Result.{err_from_is_err_and}
-use Rattle.rules.proofs.Prelude.{sym, ◌∙◌, ◌≤◌, ◌<◌, arith, rules, refused, answered, stops, goes, first_at, first_pass}
+use Rattle.rules.proofs.Prelude.{sym, ◌∙◌, ◌≤◌, ◌<◌, arith, refused, answered, stops, goes, first_at, first_pass}
 use Rattle.dictionary.specs.Dictionary.{count, name_at_within}
 use Rattle.metadata.proofs.get.Goals as goal
 

@@ -1,5 +1,5 @@
 -- `metadata::write_empty` meets its contract: three bytes are written, or none. Assumes nothing.
-use Rattle.rules.proofs.Prelude.{sym, ◌∙◌, arith, rules}
+use Rattle.rules.proofs.Prelude.{sym}
 use Rattle.metadata.proofs.Says.{too_small, enough}
 use Rattle.metadata.proofs.write_empty.Goals as goal
 
