@@ -1,15 +1,26 @@
 -- By which table the list's checks are settled, and what their passing says of the header and of each element. Assumes nothing.
 use Rattle.rules.proofs.Prelude.{◌≡◌, List, ℕ, ◌≤◌, ◌<◌, dec_lt, arith, first, each, Passed, pass, stop, ◌&◌, passed, both_pass, stops, goes, first_pass, each_passed}
 use Rattle.layout.specs.declared.Widths.{Widths}
+use Rattle.std.specs.Prelude.{Err}
+use Rattle.layout.specs.declared.Flaw.{Flaw}
+use Rattle.layout.specs.declared.Flaw.TheVariants as flaw
 use Rattle.layout.specs.Layout.{count, offset, rules}
+use Rattle.layout.specs.Steps.{HeadOf}
 use Rattle.list.specs.List.{element_rules, checks}
 use Rattle.list.specs.Meaning.{InOrder}
+use Rattle.list.specs.Answers.{of_layout}
+use Rattle.list.specs.Steps.{stop_of}
 
 module _ (w : Widths) (s : List ℕ) where
   -- THE CHECKS, BY WHERE THEY ARE SETTLED
   pub by_head : {c p : ℕ} → first (rules 60 61 60 w s) ≡ stop c p → checks w s ≡ stop c p
   unfolding checks
   by_head e = stops _ e
+
+  pub by_flaw : (f : Flaw) → HeadOf s w (Err f) → checks w s ≡ stop_of (of_layout f)
+  by_flaw flaw.Cut h = by_head (h 60 61 60)
+  by_flaw flaw.Sum h = by_head (h 60 61 60)
+  by_flaw flaw.Longer h = by_head (h 60 61 60)
 
   pub by_elements : Passed (rules 0 0 0 w s) → checks w s ≡ first (each (element_rules w s) (count w s))
   unfolding checks

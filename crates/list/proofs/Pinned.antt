@@ -3,15 +3,13 @@
 use Rattle.rules.proofs.Prelude.{◌≡◌, refl, sym, ap, ap₂, ◌∙◌, cond, List, ℕ, ◌+◌, arith, eqb}
 use Rattle.layout.specs.declared.Widths.{Widths}
 use Rattle.layout.specs.declared.Numbers.{Numbers}
-use Rattle.layout.specs.declared.Head.TheVariants as layout-head
+use Rattle.std.specs.Prelude.{Result, Ok, Err}
 use Rattle.layout.specs.Layout.{child_start}
 use Rattle.layout.specs.Steps.{NumbersOf}
 use Rattle.layout.proofs.Pinned.{read_pinned}
 use Rattle.list.specs.declared.Refusal.{Refusal}
 use Rattle.list.specs.declared.Refusal.TheVariants.{Short, Sum, Offset}
-use Rattle.list.specs.declared.Head.{Head}
-use Rattle.list.specs.declared.Head.TheVariants as head
-use Rattle.list.specs.declared.Span.{Span}
+use Rattle.part.specs.declared.Span.{Span}
 use Rattle.list.specs.Answers.{refusal_number, refusal_place}
 use Rattle.list.specs.Steps.{CheckedOf, ElementOf}
 
@@ -31,14 +29,14 @@ refusal_injective r q c p =
 
 module _ (w : Widths) (s : List ℕ) where
   numbers_pinned : (l n : Numbers) → NumbersOf s w l → NumbersOf s w n → l ≡ n
-  numbers_pinned l n a b = let same = read_pinned w s (layout-head.Good l) (layout-head.Good n) a b in cc
+  numbers_pinned l n a b = let same = read_pinned w s (Ok l) (Ok n) a b in cc
 
   -- THE THEOREMS, a call each
-  pub check_pinned : (r q : Head) → CheckedOf w s r → CheckedOf w s q → r ≡ q
-  check_pinned (head.Refused r) (head.Refused q) a b = ap head.Refused (refusal_injective r q (cc) (cc))
-  check_pinned (head.Refused r) (head.Good n) a b = let c = b.passes in let z : ◌≡◌ {A = ℕ} 0 1 = cc in absurd (omega arith)
-  check_pinned (head.Good l) (head.Refused q) a b = let c = a.passes in let z : ◌≡◌ {A = ℕ} 0 1 = cc in absurd (omega arith)
-  check_pinned (head.Good l) (head.Good n) a b = ap head.Good (numbers_pinned l n a.numbers b.numbers)
+  pub check_pinned : (r q : Result Numbers Refusal) → CheckedOf w s r → CheckedOf w s q → r ≡ q
+  check_pinned (Err r) (Err q) a b = ap Err (refusal_injective r q (cc) (cc))
+  check_pinned (Err r) (Ok n) a b = let c = b.passes in let z : ◌≡◌ {A = ℕ} 0 1 = cc in absurd (omega arith)
+  check_pinned (Ok l) (Err q) a b = let c = a.passes in let z : ◌≡◌ {A = ℕ} 0 1 = cc in absurd (omega arith)
+  check_pinned (Ok l) (Ok n) a b = ap Ok (numbers_pinned l n a.numbers b.numbers)
 
   -- the one span that meets the promise
   span_is : (k : ℕ) (r : Span) → ElementOf w s k r → record { start = child_start w s k; end = child_start w s (k + 1) } ≡ r

@@ -1,5 +1,5 @@
 -- `list::check_offsets` meets its contract: the loop keeps that all elements before k pass. Assumes nothing.
-use Rattle.rules.proofs.Prelude.{◌≡◌, sym, ◌∙◌, ◌-◌, ◌≤◌, arith, first, each, pass, first_at, first_pass, each_none, each_more, each_stop}
+use Rattle.rules.proofs.Prelude.{◌≡◌, sym, ◌∙◌, ◌-◌, arith, ◌≤◌, first, each, pass, first_at, first_pass, each_none, each_more, each_stop}
 use Rattle.layout.specs.Layout.{count as count_of, offset as offset_of}
 use Rattle.layout.proofs.Laws.{end_is}
 use Rattle.list.specs.List.{element_rules}
@@ -7,10 +7,10 @@ use Rattle.list.proofs.check_offsets.Statement.{statement}
 use Rattle.list.proofs.check_offsets.Tie as tie
 
 abbrev invariant_loop : tie.invariant-loop-k
-invariant_loop list w l count length from₀ k₀ from k = (first (each (element_rules w list) k) ≡ pass) × (from ≡ offset_of w list k) × (k ≤ count)
+invariant_loop list w l length from₀ k₀ k_end from k = (first (each (element_rules w list) k) ≡ pass) × (from ≡ offset_of w list k) × (k ≤ k_end)
 
 abbrev decreases_loop : tie.decreases-loop-k
-decreases_loop list w l count length from₀ k₀ from k = count - k
+decreases_loop list w l length from₀ k₀ k_end from k = k_end - k
 
 pub check_offsets_spec : {M : Type 1} → statement M
 unfolding element_rules
