@@ -8,13 +8,13 @@ use borrow.Author.Tests.{ltb-true, ltb-false}
 use lib.Dec.{ltb}
 use lib.ListN.{length, drop, drop_of_length-le}
 use lib.Seq.{drop-cons}
-use Rattle.names.specs.declared.Order.{Order}
-use Rattle.names.specs.declared.Order.TheVariants.{Less, Equal, Greater}
+use Rattle.std.specs.declared.cmp.Ordering.{Ordering}
+use Rattle.std.specs.declared.cmp.Ordering.TheVariants.{Less, Equal, Greater}
 use Rattle.names.specs.Order.{Before, Says, compare_of, is_less, below}
 use Rattle.names.specs.Order.Before.{prefix, smaller, onward}
 use Rattle.names.specs.Order.Says.{less, equal, greater}
 
-says_cons : (a b : ℕ) (s t : List ℕ) (o : Order) → a ≡ b → Says s t o → Says (a ∷ s) (b ∷ t) o
+says_cons : (a b : ℕ) (s t : List ℕ) (o : Ordering) → a ≡ b → Says s t o → Says (a ∷ s) (b ∷ t) o
 says_cons a b s t Less e (less r) = less (onward e r)
 says_cons a b s t Equal e (equal p) = equal (ap₂ ◌∷◌ e p)
 says_cons a b s t Greater e (greater r) = greater (onward (sym e) r)
@@ -50,7 +50,7 @@ pub before_asym : {s t : List ℕ} → Before s t → Before t s → ⊥
 before_asym p q = before_ne (before_trans p q) refl
 
 -- so no other answer is right
-pub says_same : {s t : List ℕ} {o o' : Order} → Says s t o → Says s t o' → o ≡ o'
+pub says_same : {s t : List ℕ} {o o' : Ordering} → Says s t o → Says s t o' → o ≡ o'
 says_same (less p) (less q) = refl
 says_same (less p) (equal q) = absurd (before_ne p q)
 says_same (less p) (greater q) = absurd (before_asym p q)
@@ -61,10 +61,10 @@ says_same (greater p) (less q) = absurd (before_asym p q)
 says_same (greater p) (equal q) = absurd (before_ne p (sym q))
 says_same (greater p) (greater q) = refl
 
-pub compare_of_law : {s t : List ℕ} {o : Order} → Says s t o → compare_of s t ≡ o
+pub compare_of_law : {s t : List ℕ} {o : Ordering} → Says s t o → compare_of s t ≡ o
 compare_of_law {s} {t} r = says_same (compare_says s t) r
 
-pub says_of : (s t : List ℕ) (o : Order) → compare_of s t ≡ o → Says s t o
+pub says_of : (s t : List ℕ) (o : Ordering) → compare_of s t ≡ o → Says s t o
 says_of s t o e = rw e at (compare_says s t)
 
 -- a total order: the laws, in the words of `compare_of`
@@ -74,12 +74,12 @@ compare_refl s = compare_of_law (equal refl)
 pub compare_equal : (s t : List ℕ) → compare_of s t ≡ Equal → s ≡ t
 compare_equal s t e = elim (says_of s t Equal e) [ equal p ↦ p ]
 
-unfoldable pub flip : Order → Order
+unfoldable pub flip : Ordering → Ordering
 flip Less = Greater
 flip Equal = Equal
 flip Greater = Less
 
-says_flip : {s t : List ℕ} {o : Order} → Says s t o → Says t s (flip o)
+says_flip : {s t : List ℕ} {o : Ordering} → Says s t o → Says t s (flip o)
 unfolding flip
 says_flip (less p) = greater p
 says_flip (equal p) = equal (sym p)
@@ -102,7 +102,7 @@ pub below_before : (s t : List ℕ) → below s t ≡ true → Before s t
 unfolding below
 below_before s t e = go (compare_of s t) (compare_says s t) e
   where
-    go : (o : Order) → Says s t o → is_less o ≡ true → Before s t
+    go : (o : Ordering) → Says s t o → is_less o ≡ true → Before s t
     go Less (less p) e = p
     go Equal (equal p) e = let z : ◌≡◌ {A = ℕ} 0 1 = cc in absurd (omega arith)
     go Greater (greater p) e = let z : ◌≡◌ {A = ℕ} 0 1 = cc in absurd (omega arith)

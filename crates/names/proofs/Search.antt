@@ -5,8 +5,8 @@ use mathlib.Core.List.{List}
 use Prim.Native.Nat.{ℕ, zero, suc, ◌+◌, ◌-◌, ◌≤◌, ◌<◌}
 use native.Mathlib.Decide.{dec_lt, ℕ_discrete}
 use native.Mathlib.Omega.{arith}
-use Rattle.names.specs.declared.Order.{Order}
-use Rattle.names.specs.declared.Order.TheVariants.{Less, Equal, Greater}
+use Rattle.std.specs.declared.cmp.Ordering.{Ordering}
+use Rattle.std.specs.declared.cmp.Ordering.TheVariants.{Less, Equal, Greater}
 use Rattle.names.specs.Order.{Before, compare_of}
 use Rattle.names.specs.Search.{is_equal, same, seek, Rising}
 use Rattle.names.specs.Search.Sought.{nowhere, here}
@@ -21,7 +21,7 @@ pub is_same : (s t : List ℕ) → same s t ≡ true → s ≡ t
 unfolding same
 is_same s t e = compare_equal s t (go (compare_of s t) e)
   where
-    go : (o : Order) → is_equal o ≡ true → o ≡ Equal
+    go : (o : Ordering) → is_equal o ≡ true → o ≡ Equal
     go Less e = let z : ◌≡◌ {A = ℕ} 0 1 = cc in absurd (omega arith)
     go Equal e = refl
     go Greater e = let z : ◌≡◌ {A = ℕ} 0 1 = cc in absurd (omega arith)

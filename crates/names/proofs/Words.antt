@@ -12,14 +12,16 @@ use lib.ListN.{length, drop, get_or}
 use lib.Seq.{drop-cons}
 use Rattle.eights.specs.Steps.{be, Alike, Decides}
 use Rattle.eights.proofs.Words.{Octets, be_alike}
-use Rattle.names.specs.declared.Order.{Order}
-use Rattle.names.specs.declared.Order.TheVariants.{Less, Equal, Greater}
+use Rattle.std.specs.Ordering.{nat_cmp, ordering_then}
+use Rattle.std.specs.declared.cmp.Ordering.{Ordering}
+use Rattle.std.specs.declared.cmp.Ordering.TheVariants.{Less, Equal, Greater}
+use Rattle.std.specs.Cmp.{nat_cmp_is}
 use Rattle.names.specs.Order.{compare_of, is_less}
 use Rattle.names.specs.Steps.{by, order_of}
 use Rattle.names.proofs.Laws.{compare_end, compare_short, compare_long}
 
 -- the order of two numbers, by cases
-module _ (x y : ℕ) (o : Order) where
+module _ (x y : ℕ) (o : Ordering) where
   pub by_less : x < y → by x y o ≡ Less
   unfolding by
   by_less p = rw (lt-ltb x y p)
@@ -32,7 +34,7 @@ module _ (x y : ℕ) (o : Order) where
   unfolding by
   by_same e = rw (le-ltb x y (omega arith), le-ltb y x (omega arith))
 
-by_apart : (x y : ℕ) (o : Order) → (x ≡ y → ⊥) → by x y o ≡ order_of x y
+pub by_apart : (x y : ℕ) (o : Ordering) → (x ≡ y → ⊥) → by x y o ≡ order_of x y
 unfolding by
 by_apart x y o n = go (dec_lt x y)
   where
@@ -40,8 +42,25 @@ by_apart x y o n = go (dec_lt x y)
     go (yes u) = rw (lt-ltb x y u)
     go (no u) = rw (lt-ltb y x (omega arith))
 
+-- `cmp` answers the order of two numbers, and `then` goes on where they are the same
+pub by_cmp : (x y : ℕ) → nat_cmp x y ≡ order_of x y
+by_cmp x y = go (dec_lt x y) (dec_lt y x)
+  where
+    go : Dec (x < y) → Dec (y < x) → nat_cmp x y ≡ order_of x y
+    go (yes u) v = sym (nat_cmp_is x y Less u) ∙ sym (by_less x y _ u)
+    go (no u) (yes v) = sym (nat_cmp_is x y Greater v) ∙ sym (by_greater x y _ v)
+    go (no u) (no v) = sym (nat_cmp_is x y Equal (omega arith)) ∙ sym (by_same x y _ (omega arith))
+
+pub by_then : (x y : ℕ) (o c : Ordering) → ((x ≡ y → ⊥) → c ≡ order_of x y) → (x ≡ y → c ≡ o) → ordering_then (nat_cmp x y) o ≡ c
+by_then x y o c apart same = rw (by_cmp x y) (go (dec_lt x y) (dec_lt y x))
+  where
+    go : Dec (x < y) → Dec (y < x) → ordering_then (order_of x y) o ≡ c
+    go (yes u) v = rw (by_less x y Equal u) (sym (apart (λ e. omega arith) ∙ by_less x y Equal u))
+    go (no u) (yes v) = rw (by_greater x y Equal v) (sym (apart (λ e. omega arith) ∙ by_greater x y Equal v))
+    go (no u) (no v) = rw (by_same x y Equal (omega arith)) (sym (same (omega arith)))
+
 -- a byte more of each: numbers and the bytes after them, or the longer numbers
-by_more : (x y a b : ℕ) (o : Order) → a < 256 → b < 256 → by x y (by a b o) ≡ by (256 * x + a) (256 * y + b) o
+by_more : (x y a b : ℕ) (o : Ordering) → a < 256 → b < 256 → by x y (by a b o) ≡ by (256 * x + a) (256 * y + b) o
 by_more x y a b o p q = go (dec_lt x y) (dec_lt y x) (dec_lt a b) (dec_lt b a)
   where
     go : Dec (x < y) → Dec (y < x) → Dec (a < b) → Dec (b < a) → by x y (by a b o) ≡ by (256 * x + a) (256 * y + b) o
@@ -52,7 +71,7 @@ by_more x y a b o p q = go (dec_lt x y) (dec_lt y x) (dec_lt a b) (dec_lt b a)
     go (no u) (no v) (no w) (no z) = by_same x y _ (omega arith) ∙ by_same a b o (omega arith) ∙ sym (by_same _ _ o (omega arith))
 
 -- whether it is less, by the numbers
-pub below_by : {o : Order} (x y : ℕ) → o ≡ order_of x y → ltb x y ≡ is_less o
+pub below_by : {o : Ordering} (x y : ℕ) → o ≡ order_of x y → ltb x y ≡ is_less o
 unfolding by
 below_by x y e = rw e (sym (go (ltb x y) (ltb y x)))
   where

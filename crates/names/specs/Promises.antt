@@ -1,10 +1,10 @@
 -- What each public call promises of its answer: its `ensures` cites this, and so does Pinned. Assumes nothing.
 use Rattle.std.specs.Prelude.{◌≡◌, Bool, List, ℕ}
-use Rattle.names.specs.declared.Order.{Order}
+use Rattle.std.specs.declared.cmp.Ordering.{Ordering}
 use Rattle.names.specs.Order.{compare_of, below}
 
 -- which comes first
-abbrev pub ComparePromise : List ℕ → List ℕ → Order → Type 0
+abbrev pub ComparePromise : List ℕ → List ℕ → Ordering → Type 0
 ComparePromise a b r = r ≡ compare_of a b
 
 -- whether the first does

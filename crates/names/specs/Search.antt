@@ -1,14 +1,12 @@
 -- Looking for a name among others, by their numbers (document 01, "Answers": found, or absent). Assumes nothing.
-use Rattle.std.specs.Prelude.{Bool, true, false, cond, List, ℕ, zero, suc, ◌<◌}
-use Rattle.names.specs.declared.Order.{Order}
-use Rattle.names.specs.declared.Order.TheVariants.{Less, Equal, Greater}
+use Rattle.std.specs.Prelude.{Bool, cond, List, ℕ, zero, suc, ◌<◌}
+use Rattle.std.specs.Ordering.{is_eq}
+use Rattle.std.specs.declared.cmp.Ordering.{Ordering}
 use Rattle.names.specs.Order.{Before, compare_of}
 
 -- whether two names are the same
-abbrev pub is_equal : Order → Bool
-is_equal Less = false
-is_equal Equal = true
-is_equal Greater = false
+abbrev pub is_equal : Ordering → Bool
+is_equal = is_eq
 
 unfoldable pub same : List ℕ → List ℕ → Bool
 same s t = is_equal (compare_of s t)

@@ -1,11 +1,11 @@
 -- What the steps of a comparison promise of two numbers. Assumes nothing.
 use Rattle.std.specs.Prelude.{cond, ℕ, ltb}
-use Rattle.names.specs.declared.Order.{Order}
-use Rattle.names.specs.declared.Order.TheVariants.{Less, Equal, Greater}
+use Rattle.std.specs.declared.cmp.Ordering.{Ordering}
+use Rattle.std.specs.declared.cmp.Ordering.TheVariants.{Less, Equal, Greater}
 
 -- the order of two numbers; where they are the same, that of what comes after them
-unfoldable pub by : ℕ → ℕ → Order → Order
+unfoldable pub by : ℕ → ℕ → Ordering → Ordering
 by x y after = cond (ltb x y) Less (cond (ltb y x) Greater after)
 
-abbrev pub order_of : ℕ → ℕ → Order
+abbrev pub order_of : ℕ → ℕ → Ordering
 order_of x y = by x y Equal

@@ -2,33 +2,13 @@
 #![tactic(auto)]
 
 ghost use Rattle.std.specs.Prelude.{◌≡◌, min, length};
-ghost use Rattle.names.specs.Steps.{order_of};
 ghost use Rattle.names.specs.Promises.{ComparePromise, IsBelowPromise};
 
 use eights::{alike, least, word};
-
-#[derive(Drop)]
-pub enum Order {
-    Less,
-    Equal,
-    Greater,
-}
-
-// Of two numbers: words, or lengths, or the numbers of names that are in order.
-pub fn order_of(m: usize, n: usize) -> Order
-    ensures { result ≡ order_of m n }
-{
-    if m < n {
-        return Order::Less;
-    }
-    if n < m {
-        return Order::Greater;
-    }
-    Order::Equal
-}
+use std::cmp::Ordering;
 
 // Both are read up to the length of the shorter one; where they agree that far, the lengths decide.
-fn compare_bytes(a: &[u8], b: &[u8], shared: usize) -> Order
+fn compare_bytes(a: &[u8], b: &[u8], shared: usize) -> Ordering
     requires { shared ≡ min (length a.now) (length b.now) }
     ensures { ComparePromise a.now b.now result }
 {
@@ -37,18 +17,15 @@ fn compare_bytes(a: &[u8], b: &[u8], shared: usize) -> Order
         let x = a[i];
         let y = b[i];
         if x != y {
-            if x < y {
-                return Order::Less;
-            }
-            return Order::Greater;
+            return x.cmp(&y);
         }
         i += 1;
     }
-    order_of(a.len(), b.len())
+    a.len().cmp(&b.len())
 }
 
 // The first eight bytes decide between most names; then those that `alike` finds, or the lengths.
-pub fn compare(a: &[u8], b: &[u8]) -> Order
+pub fn compare(a: &[u8], b: &[u8]) -> Ordering
     ensures { ComparePromise a.now b.now result }
 {
     let shared = least(a.len(), b.len());
@@ -58,29 +35,19 @@ pub fn compare(a: &[u8], b: &[u8]) -> Order
     let p = word(a, 0);
     let q = word(b, 0);
     if p != q {
-        return order_of(p, q);
+        return p.cmp(&q);
     }
     let i = alike(a, b, shared);
-    let x = word(a, i);
-    let y = word(b, i);
-    if x != y {
-        return order_of(x, y);
-    }
-    order_of(a.len(), b.len())
+    word(a, i).cmp(&word(b, i)).then(a.len().cmp(&b.len()))
 }
 
-// Whether `a` comes before `b`: as `compare` goes, but with no `Order` on the way, which is faster.
+// Whether `a` comes before `b`: as `compare` goes, but with no `Ordering` on the way, which is faster.
 pub fn is_below(a: &[u8], b: &[u8]) -> bool
     ensures { IsBelowPromise a.now b.now result }
 {
     let shared = least(a.len(), b.len());
     if shared < 8 {
-        let order = compare_bytes(a, b, shared);
-        return match order {
-            Order::Less => true,
-            Order::Equal => false,
-            Order::Greater => false,
-        };
+        return compare_bytes(a, b, shared).is_lt();
     }
     let p = word(a, 0);
     let q = word(b, 0);

@@ -5,7 +5,7 @@ use native.Mathlib.Numerals.{add-one}
 use native.Mathlib.Omega.{arith}
 use lib.ListN.{drop}
 use Rattle.names.specs.Order.{compare_of}
-use Rattle.names.proofs.Words.{by_less, by_greater, by_same, compare_first, compare_lengths}
+use Rattle.names.proofs.Words.{by_cmp, by_apart, by_same, compare_first, compare_lengths}
 use Rattle.names.proofs.compare_bytes.Statement.{statement}
 use Rattle.names.proofs.compare_bytes.Tie as tie
 
@@ -22,14 +22,13 @@ compare_bytes_spec =
     invariant_loop
     decreases_loop
     (λ c. (omega arith, refl))  -- loop-holds
+    (λ c. omega arith) (λ c. omega arith) (λ c κs. tt)
+    (λ c. let l = c.loop-i in let a = c.args in
+    c.cmp.ensures ∙ by_cmp _ _
+    ∙ sym (l.invariant.1 ∙ compare_first a.a.now a.b.now l.i (omega arith) (omega arith) ∙ by_apart _ _ _ (λ e. omega arith)))  -- returns
     (λ c. omega arith) (λ c. omega arith)
-    (λ c. let h = c in let a = h.args in
-    sym (h.loop-i.invariant.1 ∙ compare_first a.a.now a.b.now h.loop-i.i (omega arith) (omega arith) ∙ by_less _ _ _ (omega arith)))  -- returns
-    (λ c. let h = c in let a = h.args in
-    sym (h.loop-i.invariant.1 ∙ compare_first a.a.now a.b.now h.loop-i.i (omega arith) (omega arith) ∙ by_greater _ _ _ (omega arith)))  -- returns-2
-    (λ c. omega arith) (λ c. omega arith)
-    (λ c. let h = c in let a = h.args in
-    (omega arith, rw (add-one h.loop-i.i) (h.loop-i.invariant.1 ∙ compare_first a.a.now a.b.now h.loop-i.i (omega arith) (omega arith) ∙ by_same _ _ _ (omega arith))))  -- loop-again
+    (λ c. let l = c.loop-i in let a = c.args in
+    (omega arith, rw (add-one l.i) (l.invariant.1 ∙ compare_first a.a.now a.b.now l.i (omega arith) (omega arith) ∙ by_same _ _ _ (omega arith))))  -- loop-again
     (λ c κs. tt)
-    (λ c. let h = c in let a = h.args in
-    c.order_of.ensures ∙ sym (h.loop-i.invariant.1 ∙ compare_lengths a.a.now a.b.now h.loop-i.i (omega arith))))  -- returns-3
+    (λ c. let l = c.loop-i in let a = c.args in
+    c.cmp-2.ensures ∙ by_cmp _ _ ∙ sym (l.invariant.1 ∙ compare_lengths a.a.now a.b.now l.i (omega arith))))  -- returns-2

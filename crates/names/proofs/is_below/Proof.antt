@@ -13,15 +13,13 @@ unfolding below
 is_below_spec =
     tie.close
     (tie.spec
-    (λ c κs. search rules) (λ c κs. search rules) (λ c. search rules) (λ c. search rules) (λ c. search rules)
-    (λ c. rw (← c.compare_bytes-order.ensures, c.in-Less.is))  -- returns
-    (λ c. rw (← c.compare_bytes-order.ensures, c.in-Equal.is))  -- returns-2
-    (λ c. rw (← c.compare_bytes-order.ensures, c.in-Greater.is))  -- returns-3
+    (λ c κs. search rules) (λ c κs. search rules) (λ c κs. tt)
+    (λ c. rw (← c.compare_bytes.ensures) c.is_lt.ensures)  -- returns
     (λ c κs. search rules) (λ c κs. search rules)
     (λ c. let h = c in let a = h.args in
     let law = word_decides a.a.now a.b.now h.shared_slice_known-1.given h.shared_slice_known-2-1.given in
     below_by c.word-p.result c.word-q.result
-    (law 0 _ _ (omega arith) (omega arith) (omega arith) (λ k p. absurd (omega arith)) (omega arith) (omega arith)))  -- returns-4
+    (law 0 _ _ (omega arith) (omega arith) (omega arith) (λ k p. absurd (omega arith)) (omega arith) (omega arith)))  -- returns-2
     (λ c κs. let h = c in let a = h.args in
     let law = be_alike a.a.now a.b.now h.shared_slice_known-1.given h.shared_slice_known-2-1.given in
     (law 0 8 (omega arith) (λ k p. absurd (omega arith)), omega arith, omega arith, omega arith))  -- alike-requires
@@ -29,8 +27,8 @@ is_below_spec =
     (λ c. let d = c in let h = d in let a = h.args in
     let law = word_decides a.a.now a.b.now h.shared_slice_known-1.given h.shared_slice_known-2-1.given in
     below_by c.word-x.result c.word-y.result
-    (law d.alike-i.result _ _ (omega arith) (omega arith) (omega arith) d.alike-i.ensures.alike (omega arith) (omega arith)))  -- returns-5
+    (law d.alike-i.result _ _ (omega arith) (omega arith) (omega arith) d.alike-i.ensures.alike (omega arith) (omega arith)))  -- returns-3
     (λ c. let d = c in let h = d in let a = h.args in
     let law = end_decides a.a.now a.b.now h.shared_slice_known-1.given h.shared_slice_known-2-1.given in
     below_by (length a.a.now) (length a.b.now)
-    (law d.alike-i.result _ _ (omega arith) (omega arith) d.least-shared.result (omega arith) d.alike-i.ensures (omega arith))))  -- returns-6
+    (law d.alike-i.result _ _ (omega arith) (omega arith) d.least-shared.result (omega arith) d.alike-i.ensures (omega arith))))  -- returns-4
