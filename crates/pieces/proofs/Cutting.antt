@@ -2,14 +2,14 @@
 -- that the answer does not depend on the cutting; and the store holds the bytes received up to those that settled it. Assumes nothing.
 use mathlib.Core.List.{append-nil}
 use lib.Seq.{length-sets, take-append-le, take-append_seam, take-take, take-length}
+use Rattle.std.specs.Prelude.{Result, Ok, Err}
 use Rattle.rules.proofs.Prelude.{◌≡◌, refl, sym, ap, ◌∙◌, true, false, List, [], ◌++◌, append_assoc, ℕ, ◌+◌, ◌-◌, ◌≤◌, ◌<◌}
 use Rattle.rules.proofs.Prelude.{dec_lt, arith, length, take, length-append, Answer, code_of, false_true}
 use Rattle.dictionary.specs.Limits.{limit}
 use Rattle.dictionary.specs.Dictionary.{verdict}
 use Rattle.dictionary.specs.declared.Refusal.{Refusal}
 use Rattle.dictionary.specs.Answers.{refusal_number}
-use Rattle.metadata.specs.declared.Verdict.{Verdict}
-use Rattle.metadata.specs.declared.Verdict.TheVariants as verdict-case
+use Rattle.metadata.specs.declared.Accepted.{Accepted}
 use Rattle.metadata.specs.Answers.{verdict_numbers}
 use Rattle.metadata.proofs.Pinned.{refusal_by, refusal_back}
 use Rattle.pieces.specs.declared.State.{State}
@@ -30,9 +30,9 @@ pub refusal_final : (r : Refusal) → (refusal_number r ≡ 3 → ⊥) × (refus
 unfolding refusal_by
 refusal_final r = ((λ e. false_true (rw e at (refusal_back (λ _. true) false r))), λ e. false_true (rw e at (refusal_back (λ _. true) false r)))
 
-pub settled_final : (v : Verdict) → (code_of (verdict_numbers v) ≡ 3 → ⊥) × (code_of (verdict_numbers v) ≡ 44 → ⊥)
-settled_final (verdict-case.Accepted n e) = ((λ z. omega arith), λ z. omega arith)
-settled_final (verdict-case.Refused r) = refusal_final r
+pub settled_final : (v : Result Accepted Refusal) → (code_of (verdict_numbers v) ≡ 3 → ⊥) × (code_of (verdict_numbers v) ≡ 44 → ⊥)
+settled_final (Ok a) = ((λ z. omega arith), λ z. omega arith)
+settled_final (Err r) = refusal_final r
 
 -- WHAT IS SO AFTER ANY PIECES, whoever keeps the answer: it is the one to their bytes, and the store holds these up to those that settled it
 pub record Received (n : ℕ) (got : List ℕ) (a : Answer) (store : List ℕ) : Type 0 where

@@ -1,8 +1,8 @@
 -- The promises fix the whole answer and the store after it: two that meet one are equal. So two cuttings of the same bytes end in the same
 -- state. The two exceptions that the request names, that the store is written under a refusal and that its bytes past those that settled the
 -- verdict may depend on the cutting, are no exceptions here: of each single call the whole store is fixed. Assumes nothing.
+use Rattle.std.specs.Prelude.{Ok, Err}
 use Rattle.rules.proofs.Prelude.{◌≡◌, refl, sym, ap, ◌∙◌, List, [], ◌∷◌, ℕ, Answer, cond, eqb, gives}
-use Rattle.metadata.specs.declared.Verdict.TheVariants as verdict
 use Rattle.metadata.proofs.Pinned.{refusal_by, refusal_back, by_back}
 use Rattle.pieces.specs.declared.Fed.{Fed}
 use Rattle.pieces.specs.declared.Fed.TheVariants as fed
@@ -16,15 +16,15 @@ use Rattle.pieces.proofs.Cutting.{any_cutting}
 
 -- an answer to a piece, read back out of its numbers
 fed_back : Answer → Fed
-fed_back (gives c (n ∷ e ∷ v) p) = cond (eqb c 3) (fed.More n e) (fed.Settled (verdict.Accepted n e))
+fed_back (gives c (n ∷ e ∷ v) p) = cond (eqb c 3) (fed.More n e) (fed.Settled (Ok (record { count = n; end = e })))
 fed_back (gives c (n ∷ []) p) = fed.Full
-fed_back (gives c [] p) = refusal_by (λ r. fed.Settled (verdict.Refused r)) fed.Full c p
+fed_back (gives c [] p) = refusal_by (λ r. fed.Settled (Err r)) fed.Full c p
 
 fed_back_law : (f : Fed) → fed_back (fed_numbers f) ≡ f
 unfolding fed_back refusal_by
 fed_back_law (fed.More held wants) = refl
-fed_back_law (fed.Settled (verdict.Refused r)) = refusal_back (λ q. fed.Settled (verdict.Refused q)) fed.Full r
-fed_back_law (fed.Settled (verdict.Accepted n e)) = refl
+fed_back_law (fed.Settled (Err r)) = refusal_back (λ q. fed.Settled (Err q)) fed.Full r
+fed_back_law (fed.Settled (Ok a)) = refl
 fed_back_law fed.Full = refl
 
 pub fed_injective : (f g : Fed) → fed_numbers f ≡ fed_numbers g → f ≡ g

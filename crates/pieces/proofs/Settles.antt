@@ -1,9 +1,9 @@
 -- What the states of a run say, each exactly when; what settled stays and writes nothing, and 44 too; 10 is never answered; an accepted
 -- dictionary stands in the store; and no fewer bytes than those that are wanted settle anything. Assumes nothing.
 use lib.Seq.{take-take}
+use Rattle.std.specs.Prelude.{Ok, Err}
 use Rattle.rules.proofs.Prelude.{◌≡◌, refl, sym, ap, ◌∙◌, ◌↔◌, Bool, true, List, [], ◌∷◌, ℕ, ◌≤◌, ◌<◌, arith, length, take, drop, length-take, take-append-drop}
 use Rattle.rules.proofs.Prelude.{⊎_elim, Answer, accept, refuse, code_of, RefusedAs}
-use Rattle.dictionary.specs.Limits.{limit}
 use Rattle.dictionary.specs.Dictionary.{width, start, end, verdict}
 use Rattle.dictionary.specs.declared.Refusal.{Refusal}
 use Rattle.dictionary.specs.declared.Refusal.TheVariants.{TooLong}
@@ -12,7 +12,6 @@ use Rattle.dictionary.specs.Wanted.{wanted}
 use Rattle.dictionary.specs.Meaning.{Dictionary, Refusal as Due}
 use Rattle.dictionary.specs.Meaning.Refusal.{too_long}
 use Rattle.dictionary.proofs.Laws.{count_before, start_before}
-use Rattle.metadata.specs.declared.Verdict.TheVariants as verdict-case
 use Rattle.metadata.proofs.Accepts.{accepts}
 use Rattle.metadata.proofs.Refuses.{is_due}
 use Rattle.metadata.proofs.Fits.{checks_code}
@@ -20,7 +19,7 @@ use Rattle.metadata.proofs.Appended.{width_same, start_same, end_same}
 use Rattle.metadata.proofs.Cut.{verdict_cut}
 use Rattle.pieces.specs.declared.State.{State}
 use Rattle.pieces.specs.declared.State.TheVariants.{More, Settled, Full}
-use Rattle.pieces.specs.Pieces.{room, unsettled, more, full, answer}
+use Rattle.pieces.specs.Pieces.{room, unsettled, more, full}
 use Rattle.pieces.specs.Feed.{state_numbers, fed, store_after, bytes_of}
 use Rattle.pieces.specs.Promises.{FeedPromise}
 use Rattle.pieces.specs.Meaning.{Wants, Final, Says, Feeds, NoFewer}
@@ -112,28 +111,28 @@ module _ (store : List ℕ) {last : State} {after : List ℕ} {pieces : List (Li
       to (refused f) = absurd (omega (arith, checks_code (take n got) (is_due (take n got) f.due)))
 
   -- accepted, and refused for good, as the first bytes are
-  pub accepted_is : (k e : ℕ) → (last ≡ Settled (verdict-case.Accepted k e)) ↔ Dictionary (take n got) k e
-  accepted_is k e = (λ s. to ((state_says (Settled (verdict-case.Accepted k e))).0 s), λ d. (state_says (Settled (verdict-case.Accepted k e))).1 (accepted d))
+  pub accepted_is : (k e : ℕ) → (last ≡ Settled (Ok (record { count = k; end = e }))) ↔ Dictionary (take n got) k e
+  accepted_is k e = (λ s. to ((state_says (Settled (Ok (record { count = k; end = e })))).0 s), λ d. (state_says (Settled (Ok (record { count = k; end = e })))).1 (accepted d))
     where
       to : Says n got (accept (k ∷ e ∷ [])) → Dictionary (take n got) k e
       to (accepted d) = d
 
-  pub refused_is : (r : Refusal) → (last ≡ Settled (verdict-case.Refused r)) ↔ Final (take n got) (refusal_number r) (refusal_place r)
-  refused_is r = (λ s. to ((state_says (Settled (verdict-case.Refused r))).0 s) (refusal_final r).1, λ f. (state_says (Settled (verdict-case.Refused r))).1 (refused f))
+  pub refused_is : (r : Refusal) → (last ≡ Settled (Err r)) ↔ Final (take n got) (refusal_number r) (refusal_place r)
+  refused_is r = (λ s. to ((state_says (Settled (Err r))).0 s) (refusal_final r).1, λ f. (state_says (Settled (Err r))).1 (refused f))
     where
       to : {c p : ℕ} → Says n got (refuse c p) → (c ≡ 44 → ⊥) → Final (take n got) c p
       to (overflowing q w) h = absurd (h refl)
       to (refused f) h = f
 
   -- 10 is never answered: no more than the limit's bytes are judged
-  pub never_ten : last ≡ Settled (verdict-case.Refused TooLong) → ⊥
+  pub never_ten : last ≡ Settled (Err TooLong) → ⊥
   never_ten s = to ((refused_is TooLong).0 s).due
     where
       to : Due (take n got) 10 0 → ⊥
       to (too_long h) = omega (arith, length-take n got, room_within store)
 
   -- THE ACCEPTED DICTIONARY stands in the store, as it came, up to its trimmed end
-  pub stands_there : (k e : ℕ) → last ≡ Settled (verdict-case.Accepted k e) → (take e after ≡ take e got) × (verdict (take e after) ≡ accept (k ∷ e ∷ []))
+  pub stands_there : (k e : ℕ) → last ≡ Settled (Ok (record { count = k; end = e })) → (take e after ≡ take e got) × (verdict (take e after) ≡ accept (k ∷ e ∷ []))
   stands_there k e s =
       let d = (accepted_is k e).0 s in
       let inside : e ≤ length (take n got) = omega (arith, d.ends, d.texted) in

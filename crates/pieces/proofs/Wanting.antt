@@ -1,9 +1,9 @@
 -- The bytes that are wanted: more than there are exactly where the verdict is not settled; no fewer settle it, and until they are there as many
 -- are wanted. Assumes nothing.
-use Rattle.rules.proofs.Prelude.{◌≡◌, refl, sym, ◌∙◌, Bool, true, false, List, [], ◌∷◌, ◌++◌, ℕ, ◌+◌, ◌≤◌, ◌<◌, arith, lt-ltb, le-ltb, ltb, length, length-append}
+use Rattle.rules.proofs.Prelude.{◌≡◌, refl, sym, ◌∙◌, Bool, true, false, List, [], ◌∷◌, ◌++◌, ℕ, ◌≤◌, ◌<◌, arith, lt-ltb, le-ltb, ltb, length, length-append}
 use Rattle.rules.proofs.Prelude.{Found, accept, refuse, ◌otherwise◌, pass, stop, false_true, meant_stop}
 use Rattle.dictionary.specs.Limits.{limit}
-use Rattle.dictionary.specs.Dictionary.{width, count, offset, start, end, checks, verdict, verdict_within}
+use Rattle.dictionary.specs.Dictionary.{count, end, checks, verdict, verdict_within}
 use Rattle.dictionary.specs.Wanted.{wanted}
 use Rattle.dictionary.specs.Meaning.{Versioned, Counted, Placed, Refusal}
 use Rattle.dictionary.specs.Meaning.Refusal.{too_long, empty, other_version, count_cut, start_sum, start_short, first_offset, end_sum, end_short, cut_text, no_text, bad_range, not_above}

@@ -6,15 +6,16 @@ ghost use Rattle.pieces.specs.Pieces.{room};
 ghost use Rattle.pieces.specs.Feed.{state_of};
 ghost use Rattle.pieces.specs.Promises.{BeginPromise, FeedPromise, ReceivePromise, JudgedPromise};
 
-use dictionary::LIMIT;
+use dictionary::{LIMIT, Refusal};
 use eights::least;
+use metadata::Accepted;
 
 // What goes in with a piece and comes back: so many bytes held, and more wanted; the settled answer; 44, more bytes have come than there is
 // room for. It remembers nothing else of the bytes, so that a state which somebody made up is answered by them alone.
-#[derive(Drop)]
+#[derive(Clone, Copy)]
 pub enum State {
     More(usize),
-    Settled(metadata::Verdict),
+    Settled(Result<Accepted, Refusal>),
     Full,
 }
 
@@ -33,11 +34,24 @@ fn room_of(store: &[u8]) -> usize
 }
 
 // What a piece is answered by: the state after it, and beside the bytes held how many are wanted.
-#[derive(Drop)]
+#[derive(Clone, Copy)]
 pub enum Fed {
     More { held: usize, wanted: usize },
-    Settled(metadata::Verdict),
+    Settled(Result<Accepted, Refusal>),
     Full,
+}
+
+// What is remembered of an answer.
+impl From<Fed> for State {
+    ghost from_gives = { λ fed state. state ≡ state_of fed };
+
+    fn from(fed: Fed) -> State {
+        match fed {
+            Fed::More { held, wanted: _ } => State::More(held),
+            Fed::Settled(v) => State::Settled(v),
+            Fed::Full => State::Full,
+        }
+    }
 }
 
 // The answer to the bytes that are kept; `over` says that more have come. Until the header is whole its numbers alone are looked at, and then
@@ -69,24 +83,12 @@ pub fn receive(store: &mut [u8], piece: &[u8], held: usize) -> Fed
     judge(&store[0..held + n], n < piece.len())
 }
 
-// What is remembered of an answer.
-fn state_of(fed: Fed) -> State
-    ensures { result ≡ state_of fed }
-{
-    match fed {
-        Fed::More { held, wanted: _ } => State::More(held),
-        Fed::Settled(v) => State::Settled(v),
-        Fed::Full => State::Full,
-    }
-}
-
 // One piece, after those before it.
 pub fn feed(store: &mut [u8], piece: &[u8], state: State) -> State
     ensures { FeedPromise store.old piece.now state result store.new }
 {
     match state {
-        State::Settled(v) => State::Settled(v),
-        State::Full => State::Full,
-        State::More(held) => state_of(receive(store, piece, held)),
+        State::More(held) => receive(store, piece, held).into(),
+        State::Settled(_) | State::Full => state,
     }
 }
