@@ -1,14 +1,8 @@
 // Eight bytes at a time: as the number that they spell, or as the processor loads them.
 #![tactic(auto)]
 
-ghost use Rattle.std.specs.Prelude.{◌≡◌, ◌+◌, ◌≤◌, ◌<◌, min, length};
+ghost use Rattle.std.specs.Prelude.{◌≡◌, ◌+◌, ◌≤◌, ◌<◌, length};
 ghost use Rattle.eights.specs.Steps.{be, Raw, Alike, Decides};
-
-pub fn least(a: usize, b: usize) -> usize
-    ensures { result ≡ min a b }
-{
-    if a < b { a } else { b }
-}
 
 // The number that the four bytes at `at` spell, the highest byte first: such numbers are in the order of their bytes.
 fn half(s: &[u8], at: usize) -> usize

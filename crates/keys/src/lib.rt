@@ -7,7 +7,7 @@ ghost use Rattle.eights.specs.Steps.{be, Alike};
 ghost use Rattle.names.specs.Search.{same};
 ghost use Rattle.keys.specs.Steps.{KeyOf};
 
-use eights::{alike, least, raw, word};
+use eights::{alike, raw, word};
 
 // Byte k of a name; 0 past its end.
 fn byte_or_zero(s: &[u8], k: usize) -> usize
@@ -45,7 +45,7 @@ pub fn key(s: &[u8], from: usize, to: usize) -> usize
         let name = &s[from..to];
         return (padded_half(name, 0) * 0x1_0000_0000 + padded_half(name, 4)) / 2;
     }
-    let past = 64 - 8 * least(n, 8);
+    let past = 64 - 8 * n.min(8);
     (word(s, from) >> past << past) / 2
 }
 

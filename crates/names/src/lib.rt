@@ -4,7 +4,7 @@
 ghost use Rattle.std.specs.Prelude.{◌≡◌, min, length};
 ghost use Rattle.names.specs.Promises.{ComparePromise, IsBelowPromise};
 
-use eights::{alike, least, word};
+use eights::{alike, word};
 use std::cmp::Ordering;
 
 // Both are read up to the length of the shorter one; where they agree that far, the lengths decide.
@@ -28,7 +28,7 @@ fn compare_bytes(a: &[u8], b: &[u8], shared: usize) -> Ordering
 pub fn compare(a: &[u8], b: &[u8]) -> Ordering
     ensures { ComparePromise a.now b.now result }
 {
-    let shared = least(a.len(), b.len());
+    let shared = a.len().min(b.len());
     if shared < 8 {
         return compare_bytes(a, b, shared);
     }
@@ -45,7 +45,7 @@ pub fn compare(a: &[u8], b: &[u8]) -> Ordering
 pub fn is_below(a: &[u8], b: &[u8]) -> bool
     ensures { IsBelowPromise a.now b.now result }
 {
-    let shared = least(a.len(), b.len());
+    let shared = a.len().min(b.len());
     if shared < 8 {
         return compare_bytes(a, b, shared).is_lt();
     }

@@ -25,5 +25,5 @@ key_spec =
     (λ c κs. search rules) (λ c. omega arith) (λ c. omega arith) (λ c κs. search rules) (λ c. omega arith) (λ c. omega arith)
     (λ c. let a = c.args in
     let octets = small a.s.now c.shared_slice_known-1.given in
-    let is = key_shifted a.s.now a.from octets a.to (64 - 8 * c.least.result) (omega arith) (omega arith) c.word.ensures in
+    let is = key_shifted a.s.now a.from octets a.to (64 - 8 * c.min.result) (omega arith) (omega arith) c.word.ensures in
     key_of (part a.s.now a.from a.to) (part_octets a.s.now a.from a.to octets) (rw is)))  -- returns-3

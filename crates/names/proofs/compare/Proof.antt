@@ -28,4 +28,4 @@ compare_spec =
     c.then.ensures ∙ rw (c.cmp-2.ensures, c.cmp-3.ensures, by_cmp (length a.a.now) (length a.b.now))
     (by_then c.word.result c.word-2.result _ (compare_of a.a.now a.b.now)
     (λ n. words d.alike-i.result c.word.result c.word-2.result (omega arith) (omega arith) n d.alike-i.ensures.alike (omega arith) (omega arith))
-    (λ e. ends d.alike-i.result (length a.a.now) (length a.b.now) (omega arith) (omega arith) d.least-shared.result (omega arith) d.alike-i.ensures (omega arith)))))  -- returns-3
+    (λ e. ends d.alike-i.result (length a.a.now) (length a.b.now) (omega arith) (omega arith) d.min-shared.result (omega arith) d.alike-i.ensures (omega arith)))))  -- returns-3

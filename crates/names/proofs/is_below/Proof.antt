@@ -31,4 +31,4 @@ is_below_spec =
     (λ c. let d = c in let h = d in let a = h.args in
     let law = end_decides a.a.now a.b.now h.shared_slice_known-1.given h.shared_slice_known-2-1.given in
     below_by (length a.a.now) (length a.b.now)
-    (law d.alike-i.result _ _ (omega arith) (omega arith) d.least-shared.result (omega arith) d.alike-i.ensures (omega arith))))  -- returns-4
+    (law d.alike-i.result _ _ (omega arith) (omega arith) d.min-shared.result (omega arith) d.alike-i.ensures (omega arith))))  -- returns-4
