@@ -4,9 +4,13 @@ use Rattle.rules.proofs.Prelude.{arith, ltb-true, leb-true, lt-ltb, le-ltb, ne_e
 use borrow.Author.Tests.{lt-leb, le-leb}
 use lib.ListN.{drop_of_length-le}
 use lib.Seq.{drop-cons}
-use Rattle.brackets.specs.Brackets.{index_limit, Number, one_more, closes, content, first_or, last_or, same_quotes, in_quotes, unquoted, digits, unsigned, some_digits, small, number}
-use Rattle.brackets.specs.Brackets.Number.{none, is}
-use Rattle.brackets.specs.Steps.{later, ByteOf, LookOf, AfterPlus}
+use Rattle.brackets.specs.Brackets.{index_limit, one_more, closes, content, first_or, last_or, same_quotes, in_quotes, unquoted, digits, unsigned, some_digits, small, number}
+use Rattle.std.specs.Prelude.{Option, None, Some}
+use Rattle.std.specs.Char.{is_ascii_digit}
+use Rattle.brackets.specs.Steps.{later, ByteOf, PieceOf, LookOf, AfterPlus}
+use Rattle.brackets.specs.declared.Piece.{Piece}
+use Rattle.brackets.specs.declared.Piece.TheVariants.{Never, Close, Byte}
+use mathlib.Core.Logic.{◌⊎◌, inl, inr}
 
 -- One byte of what brackets hold.
 
@@ -80,6 +84,16 @@ module _ (s : List ℕ) (at : ℕ) where
           inside = omega arith;
         }
 
+-- what is no byte ends what they hold
+pub no_byte : (s : List ℕ) (at : ℕ) (p : Piece) → PieceOf s at p → ((b n : ℕ) → p ≡ Byte b n → ⊥) → content false (drop at s) ≡ []
+no_byte s at Never h n = h.0
+no_byte s at Close h n = h.0
+no_byte s at (Byte b k) h n = absurd (n b k refl)
+
+pub none_held : (s : List ℕ) (at : ℕ) {p : Piece} → PieceOf s at p → (p ≡ Never) ⊎ (p ≡ Close) → content false (drop at s) ≡ []
+none_held s at h (inl e) = (rw e at h).0
+none_held s at h (inr e) = (rw e at h).0
+
 -- A pass over the brackets that has come to `at`.
 
 pub record Surveyed (s : List ℕ) (from at count last : ℕ) : Type 0 where
@@ -107,20 +121,11 @@ module _ {s : List ℕ} {from at count last : ℕ} (r : Surveyed s from at count
         inside = b.inside;
       }
 
-  pub survey_never : (content false (drop at s) ≡ []) × (closes false (drop at s) ≡ 0)
-      → LookOf s from (record { size = 0; count = count; last = last })
-  unfolding last_or
-  survey_never (e, f) =
-      record {
-        size_is = sym (r.closes_is ∙ rw (f, later_zero (at - from)));
-        count_is = sym (r.count_is ∙ rw e (omega arith));
-        last_is = sym (r.last_is ∙ rw e);
-        inside = omega (arith, r.come, r.inside);
-        shut = λ h. absurd (omega arith);
-      }
+  pub survey_never : (content false (drop at s) ≡ []) × (closes false (drop at s) ≡ 0) → LookOf s from None
+  survey_never (e, f) = r.closes_is ∙ rw (f, later_zero (at - from))
 
   pub survey_close : (content false (drop at s) ≡ []) × (closes false (drop at s) ≡ 1) × (at < length s)
-      → LookOf s from (record { size = at + 1 - from; count = count; last = last })
+      → LookOf s from (Some (record { size = at + 1 - from; count = count; last = last }))
   unfolding last_or
   survey_close (e, f, g) =
       let k : closes false (drop from s) ≡ (at - from) + 1 = r.closes_is ∙ rw f (later_some (at - from) 1 (omega arith)) in
@@ -129,51 +134,47 @@ module _ {s : List ℕ} {from at count last : ℕ} (r : Surveyed s from at count
         count_is = sym (r.count_is ∙ rw e (omega arith));
         last_is = sym (r.last_is ∙ rw e);
         inside = omega (arith, r.come);
-        shut = λ h. omega (arith, r.come);
+        shut = omega (arith, r.come);
       }
 
 -- A number. Once it is too large it stays so.
 
-pub data Large : Number → Type 0 where
-  no : Large none
-  big : {n : ℕ} → index_limit ≤ n → Large (is n)
+pub data Large : Option ℕ → Type 0 where
+  no : Large None
+  big : {n : ℕ} → index_limit ≤ n → Large (Some n)
 
 pub digits_large : (n : ℕ) (t : List ℕ) → index_limit ≤ n → Large (digits n t)
 unfolding digits
 digits_large n [] h = big h
 digits_large n (b ∷ t) h = go (leb 48 b && leb b 57) (digits_large (10 * n + (b - 48)) t (omega arith))
   where
-    go : (u : Bool) → Large (digits (10 * n + (b - 48)) t) → Large (cond u (digits (10 * n + (b - 48)) t) none)
+    go : (u : Bool) → Large (digits (10 * n + (b - 48)) t) → Large (cond u (digits (10 * n + (b - 48)) t) None)
     go true r = r
     go false r = no
 
-pub small_large : {x : Number} → Large x → small x ≡ none
+pub small_large : {x : Option ℕ} → Large x → small x ≡ None
 small_large no = refl
 small_large (big {n = n} h) = rw (le-ltb n index_limit h)
 
 module _ {s : List ℕ} {at byte size : ℕ} (b : ByteOf s at byte size) (value : ℕ) where
-  pub digits_low : byte < 48 → small (digits value (content false (drop at s))) ≡ none
+  pub digits_none : is_ascii_digit byte ≡ false → small (digits value (content false (drop at s))) ≡ None
   unfolding digits
-  digits_low h = rw (b.content_is, lt-leb 48 byte h)
+  digits_none e = rw (b.content_is, e)
 
-  pub digits_high : 48 ≤ byte → 57 < byte → small (digits value (content false (drop at s))) ≡ none
-  unfolding digits
-  digits_high h k = rw (b.content_is, le-leb 48 byte h, lt-leb byte 57 k)
-
-  module _ (low : 48 ≤ byte) (high : byte ≤ 57) where
+  module _ (e : is_ascii_digit byte ≡ true) where
     pub digits_more : digits value (content false (drop at s)) ≡ digits (10 * value + (byte - 48)) (content false (drop (at + size) s))
     unfolding digits
-    digits_more = rw (b.content_is, le-leb 48 byte low, le-leb byte 57 high)
+    digits_more = rw (b.content_is, e)
 
-    pub digits_over : index_limit ≤ 10 * value + (byte - 48) → small (digits value (content false (drop at s))) ≡ none
+    pub digits_over : index_limit ≤ 10 * value + (byte - 48) → small (digits value (content false (drop at s))) ≡ None
     digits_over o = rw digits_more (small_large (digits_large (10 * value + (byte - 48)) (content false (drop (at + size) s)) o))
 
-pub digits_end : (s : List ℕ) (at value : ℕ) → content false (drop at s) ≡ [] → value < index_limit → is value ≡ small (digits value (content false (drop at s)))
+pub digits_end : (s : List ℕ) (at value : ℕ) → content false (drop at s) ≡ [] → value < index_limit → Some value ≡ small (digits value (content false (drop at s)))
 unfolding digits
 digits_end s at value e h = rw (e, lt-ltb value index_limit h)
 
 -- at least one digit
-pub some_none : (s : List ℕ) (at : ℕ) → content false (drop at s) ≡ [] → small (some_digits (content false (drop at s))) ≡ none
+pub some_none : (s : List ℕ) (at : ℕ) → content false (drop at s) ≡ [] → small (some_digits (content false (drop at s))) ≡ None
 unfolding some_digits
 some_none s at e = rw e
 
@@ -200,15 +201,15 @@ unfolding number
 number_after h = rw h.is
 
 -- it is below 2 to the 64th
-pub small_is : (x : Number) (n : ℕ) → small x ≡ is n → (x ≡ is n) × (n < index_limit)
-small_is none n e = let z : ◌≡◌ {A = ℕ} 0 1 = cc in absurd (omega arith)
-small_is (is k) n e = go (ltb k index_limit) refl e
+pub small_is : (x : Option ℕ) (n : ℕ) → small x ≡ Some n → (x ≡ Some n) × (n < index_limit)
+small_is None n e = let z : ◌≡◌ {A = ℕ} 0 1 = cc in absurd (omega arith)
+small_is (Some k) n e = go (ltb k index_limit) refl e
   where
-    go : (u : Bool) → ltb k index_limit ≡ u → cond u (is k) none ≡ is n → (is k ≡ is n) × (n < index_limit)
+    go : (u : Bool) → ltb k index_limit ≡ u → cond u (Some k) None ≡ Some n → (Some k ≡ Some n) × (n < index_limit)
     go true f g = let z : k ≡ n = cc in (g, omega (arith, ltb-true k index_limit f))
     go false f g = let z : ◌≡◌ {A = ℕ} 0 1 = cc in absurd (omega arith)
 
-pub number_below : (t : List ℕ) (n : ℕ) → number t ≡ is n → n < index_limit
+pub number_below : (t : List ℕ) (n : ℕ) → number t ≡ Some n → n < index_limit
 unfolding number
 number_below t n e = (small_is (some_digits (unsigned t)) n e).1
 

@@ -5,7 +5,7 @@ use mathlib.Core.List.{append-nil}
 use lib.Seq.{take-append_seam}
 use borrow.Author.Tests.{eqb-true, eqb-false, le-leb}
 use Rattle.brackets.specs.Brackets.{index_limit, one_more, closes, content, first_or, last_or, same_quotes, quoted, unquoted, digits, unsigned, some_digits, number}
-use Rattle.brackets.specs.Brackets.Number.{none, is}
+use Rattle.std.specs.Prelude.{None, Some}
 use Rattle.brackets.proofs.Laws.{small_is}
 use Rattle.brackets.specs.Meaning.{Escapes, Shut, Quote, Quoted, Digit, Decimal, Numeral}
 use Rattle.brackets.specs.Meaning.Escapes.{end, plainly, taken}
@@ -139,13 +139,13 @@ digit_of_law b = go (leb 48 b) refl (leb b 57) refl
     go true e false f h = absurd (false_true h)
     go false e v f h = absurd (false_true h)
 
-digits_further : (m : ℕ) (t : List ℕ) (n b : ℕ) → digits m t ≡ is n → Digit b → digits m (t ++ b ∷ []) ≡ is (10 * n + (b - 48))
+digits_further : (m : ℕ) (t : List ℕ) (n b : ℕ) → digits m t ≡ Some n → Digit b → digits m (t ++ b ∷ []) ≡ Some (10 * n + (b - 48))
 unfolding digits
 digits_further m [] n b e d = let z : m ≡ n = cc in rw (is_digit b d, z)
 digits_further m (a ∷ t) n b e d = go (leb 48 a && leb a 57) e (λ f. digits_further (10 * m + (a - 48)) t n b f d)
   where
-    go : (u : Bool) → cond u (digits (10 * m + (a - 48)) t) none ≡ is n → (digits (10 * m + (a - 48)) t ≡ is n → digits (10 * m + (a - 48)) (t ++ b ∷ []) ≡ is (10 * n + (b - 48)))
-        → cond u (digits (10 * m + (a - 48)) (t ++ b ∷ [])) none ≡ is (10 * n + (b - 48))
+    go : (u : Bool) → cond u (digits (10 * m + (a - 48)) t) None ≡ Some n → (digits (10 * m + (a - 48)) t ≡ Some n → digits (10 * m + (a - 48)) (t ++ b ∷ []) ≡ Some (10 * n + (b - 48)))
+        → cond u (digits (10 * m + (a - 48)) (t ++ b ∷ [])) None ≡ Some (10 * n + (b - 48))
     go true e k = k e
     go false e k = let z : ◌≡◌ {A = ℕ} 0 1 = cc in absurd (omega arith)
 
@@ -155,12 +155,12 @@ record Begun (t : List ℕ) (n : ℕ) : Type 0 where
   pub others : List ℕ
   pub is_first : Digit first
   pub are : t ≡ first ∷ others
-  pub say : digits 0 t ≡ is n
+  pub say : digits 0 t ≡ Some n
 
 begun : {t : List ℕ} {n : ℕ} → Decimal t n → Begun t n
 unfolding digits
 begun (digit {b = b} d) =
-    record { first = b; others = []; is_first = d; are = refl; say = rw (is_digit b d) (ap is (omega arith)) }
+    record { first = b; others = []; is_first = d; are = refl; say = rw (is_digit b d) (ap Some (omega arith)) }
 begun (further {t = t} {n = n} {b = b} r d) =
     let h = begun r in
     record {
@@ -172,26 +172,26 @@ begun (further {t = t} {n = n} {b = b} r d) =
     }
 
 -- the same digits after others
-decimal_more : {p : List ℕ} {m : ℕ} → Decimal p m → (t : List ℕ) (n : ℕ) → digits m t ≡ is n → Decimal (p ++ t) n
+decimal_more : {p : List ℕ} {m : ℕ} → Decimal p m → (t : List ℕ) (n : ℕ) → digits m t ≡ Some n → Decimal (p ++ t) n
 unfolding digits
 decimal_more {p = p} {m = m} d [] n e = let z : m ≡ n = cc in rw (append-nil p, ← z) d
 decimal_more {p = p} {m = m} d (b ∷ t) n e = go (leb 48 b && leb b 57) refl e (λ h. decimal_more {p = p ++ b ∷ []} {m = 10 * m + (b - 48)} (further d h) t n)
   where
-    go : (u : Bool) → (leb 48 b && leb b 57) ≡ u → cond u (digits (10 * m + (b - 48)) t) none ≡ is n
-        → (Digit b → digits (10 * m + (b - 48)) t ≡ is n → Decimal ((p ++ b ∷ []) ++ t) n) → Decimal (p ++ b ∷ t) n
+    go : (u : Bool) → (leb 48 b && leb b 57) ≡ u → cond u (digits (10 * m + (b - 48)) t) None ≡ Some n
+        → (Digit b → digits (10 * m + (b - 48)) t ≡ Some n → Decimal ((p ++ b ∷ []) ++ t) n) → Decimal (p ++ b ∷ t) n
     go true f e k = rw (append_assoc p (b ∷ []) t) at (k (digit_of_law b f) e)
     go false f e k = let z : ◌≡◌ {A = ℕ} 0 1 = cc in absurd (omega arith)
 
-decimal_of : (t : List ℕ) (n : ℕ) → some_digits t ≡ is n → Decimal t n
+decimal_of : (t : List ℕ) (n : ℕ) → some_digits t ≡ Some n → Decimal t n
 unfolding some_digits digits
 decimal_of [] n e = let z : ◌≡◌ {A = ℕ} 0 1 = cc in absurd (omega arith)
 decimal_of (b ∷ t) n e = go (leb 48 b && leb b 57) refl e
   where
-    go : (u : Bool) → (leb 48 b && leb b 57) ≡ u → cond u (digits (10 * 0 + (b - 48)) t) none ≡ is n → Decimal (b ∷ t) n
+    go : (u : Bool) → (leb 48 b && leb b 57) ≡ u → cond u (digits (10 * 0 + (b - 48)) t) None ≡ Some n → Decimal (b ∷ t) n
     go true f e = let z : 10 * 0 + (b - 48) ≡ b - 48 = omega arith in decimal_more (digit (digit_of_law b f)) t n (rw z at e)
     go false f e = let z : ◌≡◌ {A = ℕ} 0 1 = cc in absurd (omega arith)
 
-some_begun : {t : List ℕ} {n : ℕ} → Begun t n → some_digits t ≡ is n
+some_begun : {t : List ℕ} {n : ℕ} → Begun t n → some_digits t ≡ Some n
 unfolding some_digits
 some_begun h = rw h.are (rw h.are at h.say)
 
@@ -199,22 +199,22 @@ plain_begun : {t : List ℕ} {n : ℕ} → Begun t n → unsigned t ≡ t
 unfolding unsigned
 plain_begun h = rw (h.are, ne_eqb h.first 43 (λ e. omega (arith, h.is_first)))
 
-numeral_says : {t : List ℕ} {n : ℕ} → Numeral t n → number t ≡ is n
+numeral_says : {t : List ℕ} {n : ℕ} → Numeral t n → number t ≡ Some n
 unfolding number unsigned
 numeral_says (bare {n = n} d l) = let h = begun d in rw (plain_begun h, some_begun h, lt-ltb n index_limit l)
 numeral_says (signed {n = n} d l) = rw (some_begun (begun d), lt-ltb n index_limit l)
 
-numeral_of : (t : List ℕ) (n : ℕ) → number t ≡ is n → Numeral t n
+numeral_of : (t : List ℕ) (n : ℕ) → number t ≡ Some n → Numeral t n
 unfolding number unsigned some_digits
 numeral_of [] n e = let z : ◌≡◌ {A = ℕ} 0 1 = cc in absurd (omega arith)
 numeral_of (b ∷ t) n e = go (eqb b 43) refl (small_is _ n e)
   where
-    go : (u : Bool) → eqb b 43 ≡ u → (some_digits (cond u t (b ∷ t)) ≡ is n) × (n < index_limit) → Numeral (b ∷ t) n
+    go : (u : Bool) → eqb b 43 ≡ u → (some_digits (cond u t (b ∷ t)) ≡ Some n) × (n < index_limit) → Numeral (b ∷ t) n
     go true f (g, l) = rw (eqb-true b 43 f) (signed (decimal_of t n g) l)
     go false f (g, l) = bare (decimal_of (b ∷ t) n g) l
 
 -- `number` is the number that a numeral says
-pub numerals : (t : List ℕ) (n : ℕ) → (number t ≡ is n) ↔ Numeral t n
+pub numerals : (t : List ℕ) (n : ℕ) → (number t ≡ Some n) ↔ Numeral t n
 numerals t n = (numeral_of t n, numeral_says)
 
 -- and no numeral is quoted

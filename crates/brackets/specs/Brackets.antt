@@ -1,5 +1,5 @@
 -- What stands between brackets (document 02, i; utils.rs: parse_in_bracket). Assumes nothing.
-use Rattle.std.specs.Prelude.{Bool, true, false, cond, ◌&&◌, ◌||◌, List, [], ◌∷◌, ℕ, zero, suc, ◌+◌, ◌-◌, ◌*◌, eqb, ltb, leb, length, take, drop}
+use Rattle.std.specs.Prelude.{Bool, true, false, cond, ◌&&◌, ◌||◌, List, [], ◌∷◌, ℕ, zero, suc, ◌+◌, ◌-◌, ◌*◌, eqb, ltb, leb, length, take, drop, Option, None, Some}
 
 -- IN BRACKETS, a backslash takes the next byte as it is; the first other ] closes
 
@@ -44,29 +44,25 @@ unquoted t = take (length t - 2) (drop 1 t)
 
 -- or else A NUMBER below 2 to the 64th: a plus or none, then decimal digits, at least one
 
-pub data Number : Type 0 where
-  none : Number
-  is : ℕ → Number
-
-unfoldable pub digits : ℕ → List ℕ → Number
-digits n [] = is n
-digits n (b ∷ t) = cond (leb 48 b && leb b 57) (digits (10 * n + (b - 48)) t) none
+unfoldable pub digits : ℕ → List ℕ → Option ℕ
+digits n [] = Some n
+digits n (b ∷ t) = cond (leb 48 b && leb b 57) (digits (10 * n + (b - 48)) t) None
 
 unfoldable pub unsigned : List ℕ → List ℕ
 unsigned [] = []
 unsigned (b ∷ t) = cond (eqb b 43) t (b ∷ t)
 
-unfoldable pub some_digits : List ℕ → Number
-some_digits [] = none
+unfoldable pub some_digits : List ℕ → Option ℕ
+some_digits [] = None
 some_digits (b ∷ t) = digits 0 (b ∷ t)
 
 -- 2 to the 64th
 abbrev pub index_limit : ℕ
 index_limit = 18446744073709551616
 
-abbrev pub small : Number → Number
-small none = none
-small (is n) = cond (ltb n index_limit) (is n) none
+abbrev pub small : Option ℕ → Option ℕ
+small None = None
+small (Some n) = cond (ltb n index_limit) (Some n) None
 
-unfoldable pub number : List ℕ → Number
+unfoldable pub number : List ℕ → Option ℕ
 number t = small (some_digits (unsigned t))

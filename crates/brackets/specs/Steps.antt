@@ -1,12 +1,9 @@
 -- What the functions of the crate answer each other, in the words of Brackets.antt. Assumes nothing.
-use Rattle.std.specs.Prelude.{◌≡◌, false, List, [], ◌∷◌, ℕ, zero, suc, ◌+◌, ◌≤◌, ◌<◌, length, drop}
-use Rattle.brackets.specs.Brackets.{Number, closes, content, last_or, unsigned}
-use Rattle.brackets.specs.Brackets.Number.{none, is}
+use Rattle.std.specs.Prelude.{◌≡◌, false, List, [], ◌∷◌, ℕ, zero, suc, ◌+◌, ◌≤◌, ◌<◌, length, drop, Option, None, Some}
+use Rattle.brackets.specs.Brackets.{closes, content, last_or, unsigned}
 use Rattle.brackets.specs.declared.Piece.{Piece}
 use Rattle.brackets.specs.declared.Piece.TheVariants as piece
 use Rattle.brackets.specs.declared.Look.{Look}
-use Rattle.brackets.specs.declared.Digits.{Digits}
-use Rattle.brackets.specs.declared.Digits.TheVariants as digits
 
 -- a bracket that closes k bytes later closes that much later from here; none stays none
 unfoldable pub later : ℕ → ℕ → ℕ
@@ -25,19 +22,20 @@ PieceOf s at piece.Never = (content false (drop at s) ≡ []) × (closes false (
 PieceOf s at piece.Close = (content false (drop at s) ≡ []) × (closes false (drop at s) ≡ 1) × (at < length s)
 PieceOf s at (piece.Byte byte size) = ByteOf s at byte size
 
--- a pass over the brackets
-pub record LookOf (s : List ℕ) (from : ℕ) (l : Look) : Type 0 where
+-- a pass over the brackets that close
+pub record Seen (s : List ℕ) (from : ℕ) (l : Look) : Type 0 where
   pub size_is : l.size ≡ closes false (drop from s)
   pub count_is : l.count ≡ length (content false (drop from s))
   pub last_is : l.last ≡ last_or 0 (content false (drop from s))
   pub inside : from + l.size ≤ length s
-  pub shut : 0 < l.size → l.count < l.size
+  pub shut : l.count < l.size
+
+-- and over any
+abbrev pub LookOf : List ℕ → ℕ → Option Look → Type 0
+LookOf s from None = closes false (drop from s) ≡ 0
+LookOf s from (Some l) = Seen s from l
 
 -- what stands from r on, after a plus or none
 pub record AfterPlus (s : List ℕ) (from r : ℕ) : Type 0 where
   pub is : content false (drop r s) ≡ unsigned (content false (drop from s))
   pub inside : r ≤ length s
-
-abbrev pub number_of : Digits → Number
-number_of digits.Neither = none
-number_of (digits.Is n) = is n

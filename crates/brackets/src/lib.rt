@@ -3,7 +3,7 @@
 
 ghost use Rattle.std.specs.Prelude.{◌≡◌, false, ◌+◌, ◌≤◌, ◌<◌, length, drop};
 ghost use Rattle.brackets.specs.Brackets.{content, small, digits, some_digits, number, in_quotes};
-ghost use Rattle.brackets.specs.Steps.{PieceOf, LookOf, AfterPlus, number_of};
+ghost use Rattle.brackets.specs.Steps.{PieceOf, LookOf, AfterPlus};
 
 // One byte of what brackets hold, and how many bytes of the path it takes: two with a backslash.
 #[derive(Drop)]
@@ -34,7 +34,7 @@ pub fn unit_at(path: &[u8], at: usize) -> Piece
     Piece::Byte { byte: c, size: 2 }
 }
 
-// A pass over the brackets: how many bytes they take with the closing one (0 where none closes), how many they hold, the last of those.
+// A pass over the brackets: how many bytes they take with the closing one, how many they hold, the last of those.
 #[derive(Clone, Copy)]
 pub struct Look {
     pub size: usize,
@@ -42,7 +42,8 @@ pub struct Look {
     pub last: u8,
 }
 
-pub fn survey(path: &[u8], from: usize) -> Look
+// None where no bracket closes.
+pub fn survey(path: &[u8], from: usize) -> Option<Look>
     requires { from ≤ length path.now }
     ensures { LookOf path.now from result }
 {
@@ -50,21 +51,14 @@ pub fn survey(path: &[u8], from: usize) -> Look
     let mut count = 0;
     let mut last = 0;
     loop {
-        let unit = unit_at(path, at);
-        match unit {
-            Piece::Never => {
-                return Look {
-                    size: 0,
-                    count,
-                    last,
-                };
-            }
+        match unit_at(path, at) {
+            Piece::Never => return None,
             Piece::Close => {
-                return Look {
+                return Some(Look {
                     size: at + 1 - from,
                     count,
                     last,
-                };
+                });
             }
             Piece::Byte { byte, size } => {
                 at += size;
@@ -75,57 +69,32 @@ pub fn survey(path: &[u8], from: usize) -> Look
     }
 }
 
-// A number below 2 to the 64th, or none.
-#[derive(Drop)]
-pub enum Digits {
-    Neither,
-    Is(usize),
-}
-
-// The digits that brackets hold from `from` on.
-fn digits_at(path: &[u8], from: usize) -> Digits
+// The number below 2 to the 64th that the digits say which brackets hold from `from` on.
+fn digits_at(path: &[u8], from: usize) -> Option<usize>
     requires { from ≤ length path.now }
-    ensures { number_of result ≡ small (digits 0 (content false (drop from path.now))) }
+    ensures { result ≡ small (digits 0 (content false (drop from path.now))) }
 {
     let mut at = from;
     let mut value: usize = 0;
-    loop {
-        let unit = unit_at(path, at);
-        match unit {
-            Piece::Never => {
-                return Digits::Is(value);
-            }
-            Piece::Close => {
-                return Digits::Is(value);
-            }
-            Piece::Byte { byte, size } => {
-                if byte < b'0' {
-                    return Digits::Neither;
-                }
-                if b'9' < byte {
-                    return Digits::Neither;
-                }
-                let digit = (byte - b'0') as usize;
-                if (0xFFFF_FFFF_FFFF_FFFF - digit) / 10 < value {
-                    return Digits::Neither;
-                }
-                value = 10 * value + digit;
-                at += size;
-            }
+    while let Piece::Byte { byte, size } = unit_at(path, at) {
+        if !byte.is_ascii_digit() {
+            return None;
         }
+        let digit = (byte - b'0') as usize;
+        value = value.checked_mul(10)?.checked_add(digit)?;
+        at += size;
     }
+    Some(value)
 }
 
 // At least one digit.
-fn some_digits(path: &[u8], from: usize) -> Digits
+fn some_digits(path: &[u8], from: usize) -> Option<usize>
     requires { from ≤ length path.now }
-    ensures { number_of result ≡ small (some_digits (content false (drop from path.now))) }
+    ensures { result ≡ small (some_digits (content false (drop from path.now))) }
 {
-    let unit = unit_at(path, from);
-    match unit {
-        Piece::Never => Digits::Neither,
-        Piece::Close => Digits::Neither,
-        Piece::Byte { byte: _, size: _ } => digits_at(path, from),
+    match unit_at(path, from) {
+        Piece::Never | Piece::Close => None,
+        Piece::Byte { .. } => digits_at(path, from),
     }
 }
 
@@ -134,40 +103,24 @@ fn after_plus(path: &[u8], from: usize) -> usize
     requires { from ≤ length path.now }
     ensures { AfterPlus path.now from result }
 {
-    let unit = unit_at(path, from);
-    match unit {
-        Piece::Never => from,
-        Piece::Close => from,
-        Piece::Byte { byte, size } => {
-            if byte == b'+' {
-                return from + size;
-            }
-            from
-        }
+    match unit_at(path, from) {
+        Piece::Byte { byte: b'+', size } => from + size,
+        Piece::Byte { .. } => from,
+        Piece::Never | Piece::Close => from,
     }
 }
 
 // The number that brackets hold, a plus before it or none.
-pub fn number_at(path: &[u8], from: usize) -> Digits
+pub fn number_at(path: &[u8], from: usize) -> Option<usize>
     requires { from ≤ length path.now }
-    ensures { number_of result ≡ number (content false (drop from path.now)) }
+    ensures { result ≡ number (content false (drop from path.now)) }
 {
-    let start = after_plus(path, from);
-    some_digits(path, start)
+    some_digits(path, after_plus(path, from))
 }
 
 // Whether so many bytes, of which these are the first and the last, are a name in quotes.
 pub fn is_quoted(count: usize, first: u8, last: u8) -> bool
     ensures { result ≡ in_quotes count first last }
 {
-    if count < 2 {
-        return false;
-    }
-    if first != last {
-        return false;
-    }
-    if first == b'\'' {
-        return true;
-    }
-    first == b'"'
+    2 <= count && first == last && (first == b'\'' || first == b'"')
 }

@@ -8,7 +8,7 @@ use Rattle.steps.specs.Path.{Step, Next, ends, plain, numbered, element, closed,
 use Rattle.steps.specs.Path.Step.{named}
 use Rattle.steps.specs.Path.Next.{wrong, takes}
 use Rattle.steps.specs.Path.Parsed.{refused, steps}
-use Rattle.brackets.specs.Steps.{ByteOf, LookOf}
+use Rattle.brackets.specs.Steps.{ByteOf, Seen}
 use Rattle.brackets.specs.declared.Look.{Look}
 use Rattle.brackets.proofs.Laws.{first_byte, unquoted_byte}
 
@@ -48,9 +48,9 @@ module _ (u : List ℕ) where
     bracket_name e = closed_some _ _ h ∙ rw e
 
 -- after a pass over them
-module _ {s : List ℕ} {at : ℕ} {l : Look} (r : LookOf s at l) (h : l.size ≡ 0 → ⊥) where
+module _ {s : List ℕ} {at : ℕ} {l : Look} (r : Seen s at l) where
   some_close : 0 < closes false (drop at s)
-  some_close = omega (arith, r.size_is, h)
+  some_close = omega (arith, r.size_is, r.shut)
 
   look_number : quoted (content false (drop at s)) ≡ false → numbered l.size (number (content false (drop at s))) ≡ bracket (drop at s)
   look_number e = sym (bracket_number (drop at s) some_close e ∙ rw r.size_is)

@@ -3,8 +3,8 @@ use Rattle.rules.proofs.Prelude.{◌≡◌, refl, sym, ap, ◌∙◌, ◌↔◌,
 use Rattle.rules.proofs.Prelude.{length, take, drop, take-append-drop, false_true}
 use lib.Seq.{take-append_seam, drop-append_seam}
 use borrow.Author.Tests.{eqb-true}
-use Rattle.brackets.specs.Brackets.{Number, closes, content, quoted, unquoted, number}
-use Rattle.brackets.specs.Brackets.Number.{none, is}
+use Rattle.brackets.specs.Brackets.{closes, content, quoted, unquoted, number}
+use Rattle.std.specs.Prelude.{Option, None, Some}
 use Rattle.brackets.specs.Meaning.{Shut, Quoted, Numeral}
 use Rattle.brackets.proofs.Means.{shut_content, shut_closes, shut_found, open_found, shut_rest, quoted_so, quoted_back, numerals, numeral_unquoted}
 use Rattle.steps.specs.Path.{Step, Next, Parsed, ends, plain, numbered, element, closed, bracket, dotted, next, add, follow, parse}
@@ -77,7 +77,7 @@ holds_so n (name q) = let (e, f) = quoted_so q in rw (e, f)
 holds_so n (index {t = t} {n = k} h) = rw (numeral_unquoted h, (numerals t k).1 h)
 
 -- and back: a name, a number, or neither
-holds_nothing : (t : List ℕ) → quoted t ≡ false → number t ≡ none → (x : Step) → Holds t x → ⊥
+holds_nothing : (t : List ℕ) → quoted t ≡ false → number t ≡ None → (x : Step) → Holds t x → ⊥
 holds_nothing t e f x (name q) = false_true (sym e ∙ (quoted_so q).0)
 holds_nothing t e f x (index {n = k} h) = let g = sym f ∙ (numerals t k).1 h in let z : ◌≡◌ {A = ℕ} 0 1 = cc in omega arith
 
@@ -90,10 +90,10 @@ element_told : (s t : List ℕ) (n : ℕ) → Shut s t (drop n s) → Told (91 �
 unfolding Told
 element_told s t n h = go (quoted t) refl (number t) refl
   where
-    go : (u : Bool) → quoted t ≡ u → (k : Number) → number t ≡ k → Told (91 ∷ s) s (cond u (takes (named (unquoted t)) n) (numbered n k))
+    go : (u : Bool) → quoted t ≡ u → (k : Option ℕ) → number t ≡ k → Told (91 ∷ s) s (cond u (takes (named (unquoted t)) n) (numbered n k))
     go true e k f = bracketed h (name (quoted_back t e))
-    go false e none f = neither h (holds_nothing t e f)
-    go false e (is k) f = bracketed h (index ((numerals t k).0 f))
+    go false e None f = neither h (holds_nothing t e f)
+    go false e (Some k) f = bracketed h (index ((numerals t k).0 f))
 
 closed_told : (s : List ℕ) (k : ℕ) → closes false s ≡ k → Told (91 ∷ s) s (closed k (content false s))
 unfolding Told
@@ -176,12 +176,12 @@ stands_parse (after_dot {t = t} {rest = rest} h) = dotted_parse t rest h
 stands_parse (bracketed {w = w} {x = x} h k) = parse_cons 91 w x (closes false w) (next_shut h ∙ holds_so _ k) ∙ rw (shut_rest h)
 
 -- brackets that hold neither
-number_none : (t : List ℕ) → ((n : ℕ) → Numeral t n → ⊥) → number t ≡ none
+number_none : (t : List ℕ) → ((n : ℕ) → Numeral t n → ⊥) → number t ≡ None
 number_none t never = go (number t) refl
   where
-    go : (k : Number) → number t ≡ k → number t ≡ none
-    go none e = e
-    go (is k) e = absurd (never k ((numerals t k).0 e))
+    go : (k : Option ℕ) → number t ≡ k → number t ≡ None
+    go None e = e
+    go (Some k) e = absurd (never k ((numerals t k).0 e))
 
 not_quoted : (t : List ℕ) → ((n : List ℕ) → Quoted t n → ⊥) → quoted t ≡ false
 not_quoted t never = go (quoted t) refl

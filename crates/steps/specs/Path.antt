@@ -1,8 +1,7 @@
 -- A path and its steps (document 02, i; utils.rs: parse_path): `site.meter[2]` is the name site, the name meter, the index 2.
 -- Refusals are the answers of the same definition. Assumes nothing.
-use Rattle.std.specs.Prelude.{Bool, false, cond, ◌||◌, List, [], ◌∷◌, ℕ, zero, suc, eqb, take}
-use Rattle.brackets.specs.Brackets.{closes, content, quoted, unquoted, Number, number}
-use Rattle.brackets.specs.Brackets.Number.{none, is}
+use Rattle.std.specs.Prelude.{Bool, false, cond, ◌||◌, List, [], ◌∷◌, ℕ, zero, suc, eqb, take, Option, None, Some}
+use Rattle.brackets.specs.Brackets.{closes, content, quoted, unquoted, number}
 
 pub data Step : Type 0 where
   named : List ℕ → Step
@@ -28,9 +27,9 @@ plain (b ∷ s) = cond (ends b) 0 (suc (plain s))
 
 -- what stands in brackets that take n bytes after the opening one
 
-abbrev pub numbered : ℕ → Number → Next
-numbered n none = wrong 75
-numbered n (is k) = takes (indexed k) n
+abbrev pub numbered : ℕ → Option ℕ → Next
+numbered n None = wrong 75
+numbered n (Some k) = takes (indexed k) n
 
 abbrev pub element : ℕ → List ℕ → Next
 element n t = cond (quoted t) (takes (named (unquoted t)) n) (numbered n (number t))

@@ -6,10 +6,10 @@ ghost use Rattle.brackets.specs.Brackets.{content, digits, number};
 ghost use Rattle.steps.specs.Path.{ends, plain, numbered, bracket, dotted};
 ghost use Rattle.steps.specs.Steps.{read_scan, Bounded, ScanOf};
 
-use brackets::{Digits, Piece};
+use brackets::Piece;
 
 // One case for each of the refusals 72 to 75, which a step can meet.
-#[derive(Drop)]
+#[derive(Clone, Copy)]
 pub enum Refusal {
     TrailingDot,
     Unexpected,
@@ -17,11 +17,10 @@ pub enum Refusal {
     Bracket,
 }
 
-// What a byte of a path starts: a refusal; a name, as it stands; a quoted name of `len` bytes once the backslashes are off; an index.
+// What a byte of a path starts: a name, as it stands; a quoted name of `len` bytes once the backslashes are off; an index.
 // `more` bytes after that byte are of it.
-#[derive(Drop)]
+#[derive(Clone, Copy)]
 pub enum Scan {
-    Wrong(Refusal),
     Plain {
         from: usize,
         len: usize,
@@ -41,13 +40,7 @@ pub enum Scan {
 fn is_end(b: u8) -> bool
     ensures { result ≡ ends b }
 {
-    if b == b'.' {
-        return true;
-    }
-    if b == b'[' {
-        return true;
-    }
-    b == b']'
+    matches!(b, b'.' | b'[' | b']')
 }
 
 // How many bytes stand from `from` to the next . [ or ]
@@ -55,92 +48,76 @@ fn plain_len(path: &[u8], from: usize) -> usize
     requires { from ≤ length path.now }
     ensures { (result ≡ plain (drop from path.now)) × (from + result ≤ length path.now) }
 {
-    let mut at = from;
-    while at < path.len() {
+    for at in from..path.len() {
         if is_end(path[at]) {
             return at - from;
         }
-        at += 1;
     }
-    at - from
+    path.len() - from
 }
 
 // A number in the brackets that open at `at` and take `more` bytes after.
-fn numbered_at(path: &[u8], at: usize, more: usize) -> Scan
+fn numbered_at(path: &[u8], at: usize, more: usize) -> Result<Scan, Refusal>
     requires { at + 1 + more ≤ length path.now }
     ensures { (read_scan path.now result ≡ numbered more (number (content false (drop (at + 1) path.now)))) × Bounded path.now at result }
 {
-    let digits = brackets::number_at(path, at + 1);
-    match digits {
-        Digits::Neither => Scan::Wrong(Refusal::Bracket),
-        Digits::Is(n) => Scan::Index { value: n, more },
-    }
+    let value = brackets::number_at(path, at + 1).ok_or(Refusal::Bracket)?;
+    Ok(Scan::Index { value, more })
 }
 
 // The brackets that open at `at`.
-fn bracket_at(path: &[u8], at: usize) -> Scan
+fn bracket_at(path: &[u8], at: usize) -> Result<Scan, Refusal>
     requires { at < length path.now }
     ensures { (read_scan path.now result ≡ bracket (drop (at + 1) path.now)) × Bounded path.now at result }
 {
-    let l = brackets::survey(path, at + 1);
-    if l.size == 0 {
-        return Scan::Wrong(Refusal::Unclosed);
-    }
-    let unit = brackets::unit_at(path, at + 1);
-    match unit {
-        Piece::Never => numbered_at(path, at, l.size),
-        Piece::Close => numbered_at(path, at, l.size),
-        Piece::Byte { byte, size } => {
-            if brackets::is_quoted(l.count, byte, l.last) {
-                return Scan::Quoted {
-                    from: at + 1 + size,
-                    len: l.count - 2,
-                    more: l.size,
-                };
-            }
-            numbered_at(path, at, l.size)
+    let look = brackets::survey(path, at + 1).ok_or(Refusal::Unclosed)?;
+    match brackets::unit_at(path, at + 1) {
+        Piece::Byte { byte, size } if brackets::is_quoted(look.count, byte, look.last) => {
+            Ok(Scan::Quoted {
+                from: at + 1 + size,
+                len: look.count - 2,
+                more: look.size,
+            })
         }
+        _ => numbered_at(path, at, look.size),
     }
 }
 
 // A dot at `at`, and a name after it.
-fn dotted_at(path: &[u8], at: usize) -> Scan
+fn dotted_at(path: &[u8], at: usize) -> Result<Scan, Refusal>
     requires { at < length path.now }
     ensures { (read_scan path.now result ≡ dotted (drop (at + 1) path.now)) × Bounded path.now at result }
 {
     if path.len() <= at + 1 {
-        return Scan::Wrong(Refusal::TrailingDot);
+        return Err(Refusal::TrailingDot);
     }
     let len = plain_len(path, at + 1);
     if len == 0 {
-        return Scan::Wrong(Refusal::Unexpected);
+        return Err(Refusal::Unexpected);
     }
-    Scan::Plain {
+    Ok(Scan::Plain {
         from: at + 1,
         len,
         more: len,
-    }
+    })
 }
 
 // The step that the byte at `at` starts.
-pub fn step_at(path: &[u8], at: usize) -> Scan
+pub fn step_at(path: &[u8], at: usize) -> Result<Scan, Refusal>
     requires { at < length path.now }
     ensures { ScanOf path.now at result }
 {
-    let b = path[at];
-    if b == b'.' {
-        return dotted_at(path, at);
-    }
-    if b == b'[' {
-        return bracket_at(path, at);
-    }
-    if b == b']' {
-        return Scan::Wrong(Refusal::Unexpected);
-    }
-    let len = plain_len(path, at + 1);
-    Scan::Plain {
-        from: at,
-        len: len + 1,
-        more: len,
+    match path[at] {
+        b'.' => dotted_at(path, at),
+        b'[' => bracket_at(path, at),
+        b']' => Err(Refusal::Unexpected),
+        _ => {
+            let len = plain_len(path, at + 1);
+            Ok(Scan::Plain {
+                from: at,
+                len: len + 1,
+                more: len,
+            })
+        }
     }
 }
