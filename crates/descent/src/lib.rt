@@ -2,15 +2,11 @@
 // object.rs, list.rs: with_full_validation).
 #![tactic(auto)]
 
-ghost use Rattle.std.specs.Prelude.{◌≡◌, ◌+◌, ◌≤◌, ◌<◌};
-ghost use Rattle.part.specs.Part.{part};
-ghost use Rattle.encoding.specs.declared.Header.TheVariants as header;
-ghost use Rattle.layout.specs.Steps.{Few};
-ghost use Rattle.nodes.specs.Meaning.{head_of};
+ghost use Rattle.std.specs.Prelude.{◌+◌, ◌≤◌, ◌<◌};
 ghost use Rattle.nodes.specs.Steps.{Within, Remembers, CheckOf, Opened};
 
 use encoding::Header;
-use nodes::{Container, Finding, Opening, Refusal};
+use nodes::{Container, Fault, Sound};
 use texts::Span;
 
 // The value from a to e of the whole, below which `left` levels of containers may come, itself among them. What is good is marked.
@@ -24,33 +20,19 @@ pub fn check_value(
     left: usize,
     known: Span,
     marks: &mut [u8],
-) -> Finding
+) -> Result<Sound, Fault>
     requires { Within dict.now h whole.now a e × (left ≤ 32) × Remembers dict.now whole.now marks.old known }
     ensures { CheckOf dict.now left whole.now a e marks.new result }
 {
-    let m = nodes::recalled(whole, a, e, left, marks);
-    if 0 < m {
-        return Finding::Good {
-            height: m - 1,
-            known,
-        };
+    if let Some(height) = nodes::recalled(whole, a, e, left, marks) {
+        return Ok(Sound { height, known });
     }
-    match check_new(dict, h, whole, a, e, left, known, marks) {
-        Finding::Bad { refusal, start } => Finding::Bad { refusal, start },
-        Finding::Good {
-            height,
-            known: text,
-        } => {
-            marks::put(marks, a, height + 1);
-            Finding::Good {
-                height,
-                known: text,
-            }
-        }
-    }
+    let good = check_new(dict, h, whole, a, e, left, known, marks)?;
+    marks::put(marks, a, good.height + 1);
+    Ok(good)
 }
 
-// The same of a value that is not marked, by what its header byte says.
+// The same of a value that is not marked, by what its header byte says: of a container come its own checks, and then its children.
 #[cycle(descent)]
 fn check_new(
     dict: &[u8],
@@ -61,84 +43,23 @@ fn check_new(
     left: usize,
     known: Span,
     marks: &mut [u8],
-) -> Finding
+) -> Result<Sound, Fault>
     requires { Within dict.now h whole.now a e × (left ≤ 32) × Remembers dict.now whole.now marks.old known }
     ensures { CheckOf dict.now left whole.now a e marks.new result }
 {
-    let header = encoding::header_of(part::first_byte(whole, a, e));
-    match header {
+    match encoding::header_of(part::first_byte(whole, a, e)) {
         Header::Primitive(_) => nodes::check_leaf(whole, a, e, known),
         Header::ShortString(_) => nodes::check_leaf(whole, a, e, known),
         Header::Object(w) => {
-            if left == 0 {
-                return Finding::Bad {
-                    refusal: Refusal::TooDeep,
-                    start: a,
-                };
-            }
-            check_object(dict, h, whole, a, e, w, left - 1, known, marks)
+            let below = nodes::below(left, a)?;
+            let c = nodes::open_object(dict, h, whole, a, e, w)?;
+            check_children(dict, h, whole, a, e, c, below, known, marks)
         }
         Header::List(w) => {
-            if left == 0 {
-                return Finding::Bad {
-                    refusal: Refusal::TooDeep,
-                    start: a,
-                };
-            }
-            check_list(dict, h, whole, a, e, w, left - 1, known, marks)
+            let below = nodes::below(left, a)?;
+            let c = nodes::open_list(whole, a, e, w)?;
+            check_children(dict, h, whole, a, e, c, below, known, marks)
         }
-    }
-}
-
-// An object: its layer's own checks, then its children, with `left` levels below it.
-#[cycle(descent)]
-fn check_object(
-    dict: &[u8],
-    h: dictionary::Header,
-    whole: &[u8],
-    a: usize,
-    e: usize,
-    w: layout::Widths,
-    left: usize,
-    known: Span,
-    marks: &mut [u8],
-) -> Finding
-    requires { Within dict.now h whole.now a e × (left < 32) × Remembers dict.now whole.now marks.old known × (head_of (part whole.now a e) ≡ header.Object w) × Few w }
-    ensures { CheckOf dict.now (left + 1) whole.now a e marks.new result }
-{
-    let opening = nodes::open_object(dict, h, whole, a, e, w);
-    match opening {
-        Opening::Refused(r) => Finding::Bad {
-            refusal: r,
-            start: a,
-        },
-        Opening::Open(c) => check_children(dict, h, whole, a, e, c, left, known, marks),
-    }
-}
-
-// A list: its layer's own checks, then its elements, with `left` levels below it.
-#[cycle(descent)]
-fn check_list(
-    dict: &[u8],
-    h: dictionary::Header,
-    whole: &[u8],
-    a: usize,
-    e: usize,
-    w: layout::Widths,
-    left: usize,
-    known: Span,
-    marks: &mut [u8],
-) -> Finding
-    requires { Within dict.now h whole.now a e × (left < 32) × Remembers dict.now whole.now marks.old known × (head_of (part whole.now a e) ≡ header.List w) × Few w }
-    ensures { CheckOf dict.now (left + 1) whole.now a e marks.new result }
-{
-    let opening = nodes::open_list(whole, a, e, w);
-    match opening {
-        Opening::Refused(r) => Finding::Bad {
-            refusal: r,
-            start: a,
-        },
-        Opening::Open(c) => check_children(dict, h, whole, a, e, c, left, known, marks),
     }
 }
 
@@ -154,36 +75,23 @@ fn check_children(
     left: usize,
     known: Span,
     marks: &mut [u8],
-) -> Finding
+) -> Result<Sound, Fault>
     requires { Within dict.now h whole.now a e × (left < 32) × Remembers dict.now whole.now marks.old known × Opened dict.now whole.now a e c }
     ensures { CheckOf dict.now (left + 1) whole.now a e marks.new result }
 {
-    let count = c.numbers.count;
     let mut text = known;
     let mut height = 0;
-    let mut k = 0;
-    while k < count {
+    for k in 0..c.numbers.count {
         let child = nodes::child_at(whole, a, e, c, k);
         if leaf::is_small(whole, child.start, child.end) {
-            k += 1;
-        } else {
-            match check_value(dict, h, whole, child.start, child.end, left, text, marks) {
-                Finding::Bad { refusal, start } => {
-                    return Finding::Bad { refusal, start };
-                }
-                Finding::Good {
-                    height: below,
-                    known: more,
-                } => {
-                    height = marks::larger(height, below);
-                    text = more;
-                    k += 1;
-                }
-            }
+            continue;
         }
+        let good = check_value(dict, h, whole, child.start, child.end, left, text, marks)?;
+        height = marks::larger(height, good.height);
+        text = good.known;
     }
-    Finding::Good {
+    Ok(Sound {
         height: height + 1,
         known: text,
-    }
+    })
 }

@@ -1,5 +1,6 @@
 -- A leaf that stands in a whole: where its text is, and what its check answers by the check of that. Assumes nothing.
 use Rattle.rules.proofs.Prelude.{◌≡◌, sym, ◌∙◌, true, false, List, ℕ, ◌+◌, ◌-◌, ◌≤◌, ◌<◌, arith, length, get_or, false_true}
+use Rattle.std.specs.Prelude.{Result, Ok, Err}
 use Rattle.part.specs.Part.{part}
 use Rattle.part.proofs.Laws.{part_length, part_first, part_part}
 use Rattle.encoding.specs.declared.Header.{Header}
@@ -11,8 +12,7 @@ use Rattle.lengths.proofs.Means.{known}
 use Rattle.lengths.proofs.Appended.{some_bytes, at_hand}
 use Rattle.texts.specs.declared.Span.{Span}
 use Rattle.texts.specs.Known.{KnownOf}
-use Rattle.leaf.specs.declared.Leaf.{Leaf}
-use Rattle.leaf.specs.declared.Leaf.TheVariants as leaf-is
+use Rattle.leaf.specs.declared.Refusal.{Refusal}
 use Rattle.leaf.specs.Leaf.{is_string, text_start, text}
 use Rattle.leaf.specs.Meaning.Refusal.{not_text}
 use Rattle.leaf.specs.Steps.{TextOf, LeafOf}
@@ -55,14 +55,14 @@ module _ {w : List ℕ} {a e n : ℕ} {t : Span} (stands : Stands w a e n t) whe
     text_at = rw (← says_part, own) (part_part w a e (text_start h) n ends_inside)
 
     -- what is no string is good
-    pub no_string : is_string h ≡ false → LeafOf w a e (leaf-is.Good t)
+    pub no_string : is_string h ≡ false → LeafOf w a e (Ok t)
     no_string b =
         let good = all_pass (part w a e) (record { bytes = n; measured = own; is_text = λ s. false_true (sym b ∙ (rw (← says_part) at s)) }) in
         (good, stands.2)
 
     -- and a string is what its text is
-    pub as_its_text : is_string h ≡ true → (r : Leaf) → TextOf w (a + text_start h) (a + n) r → LeafOf w a e r
-    as_its_text b (leaf-is.Refused k) told =
+    pub as_its_text : is_string h ≡ true → (r : Result Span Refusal) → TextOf w (a + text_start h) (a + n) r → LeafOf w a e r
+    as_its_text b (Err k) told =
         rw told.0 (is_due (part w a e) (not_text own (rw (← says_part) b) (λ x. told.1 (rw text_at at x))))
-    as_its_text b (leaf-is.Good k) told =
+    as_its_text b (Ok k) told =
         (all_pass (part w a e) (record { bytes = n; measured = own; is_text = λ _. rw text_at told.0 }), told.1)

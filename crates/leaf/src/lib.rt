@@ -21,13 +21,6 @@ pub enum Refusal {
     NotUtf8,
 }
 
-// Good, and the range of the whole that is known to be text now; or refused.
-#[derive(Drop)]
-pub enum Leaf {
-    Refused(Refusal),
-    Good(Span),
-}
-
 // Whether there are bytes, and room for them.
 fn fits(bytes: usize, room: usize) -> bool
     ensures { result ≡ true → (0 < bytes) × (bytes ≤ room) }
@@ -68,19 +61,19 @@ pub fn is_small(whole: &[u8], a: usize, e: usize) -> bool
 }
 
 // The string whose text is from i to j of the whole.
-fn check_text(whole: &[u8], i: usize, j: usize, known: Span) -> Leaf
+fn check_text(whole: &[u8], i: usize, j: usize, known: Span) -> Result<Span, Refusal>
     requires { KnownOf whole.now known × (i ≤ j) × (j ≤ length whole.now) }
     ensures { TextOf whole.now i j result }
 {
     let judged = texts::check(whole, i, j, known);
     match judged {
-        Judged::Text(now_known) => Leaf::Good(now_known),
-        Judged::NotText => Leaf::Refused(Refusal::NotUtf8),
+        Judged::Text(now_known) => Ok(now_known),
+        Judged::NotText => Err(Refusal::NotUtf8),
     }
 }
 
 // The leaf from a to e of the whole, whose own bytes are n.
-fn check_measured(whole: &[u8], a: usize, e: usize, n: usize, known: Span) -> Leaf
+fn check_measured(whole: &[u8], a: usize, e: usize, n: usize, known: Span) -> Result<Span, Refusal>
     requires { (a ≤ e) × (e ≤ length whole.now) × KnownOf whole.now known × (own_length (part whole.now a e) ≡ Known n) }
     ensures { LeafOf whole.now a e result }
 {
@@ -90,25 +83,26 @@ fn check_measured(whole: &[u8], a: usize, e: usize, n: usize, known: Span) -> Le
             if t == 16 {
                 return check_text(whole, a + 5, a + n, known);
             }
-            Leaf::Good(known)
+            Ok(known)
         }
         Header::ShortString(_) => check_text(whole, a + 1, a + n, known),
-        Header::Object(_) => Leaf::Good(known),
-        Header::List(_) => Leaf::Good(known),
+        Header::Object(_) => Ok(known),
+        Header::List(_) => Ok(known),
     }
 }
 
-// All checks of the leaf from a to e of the whole, with the range of the whole that is known to be text.
-pub fn check(whole: &[u8], a: usize, e: usize, known: Span) -> Leaf
+// All checks of the leaf from a to e of the whole, with the range of the whole that is known to be text; what is good tells the range that is
+// known to be text now.
+pub fn check(whole: &[u8], a: usize, e: usize, known: Span) -> Result<Span, Refusal>
     requires { (a ≤ e) × (e ≤ length whole.now) × KnownOf whole.now known }
     ensures { LeafOf whole.now a e result }
 {
     let length = lengths::own_length(&whole[a..e]);
     match length {
         Length::Known(n) => check_measured(whole, a, e, n, known),
-        Length::Cut => Leaf::Refused(Refusal::Short),
-        Length::Sum => Leaf::Refused(Refusal::Short),
-        Length::Unknown => Leaf::Refused(Refusal::Unknown),
-        Length::Longer => Leaf::Refused(Refusal::Short),
+        Length::Cut => Err(Refusal::Short),
+        Length::Sum => Err(Refusal::Short),
+        Length::Unknown => Err(Refusal::Unknown),
+        Length::Longer => Err(Refusal::Short),
     }
 }

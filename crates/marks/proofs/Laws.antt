@@ -23,10 +23,6 @@ cleared_as marks others e = ap (λ n. replicate n 0) e
 pub cleared_again : (marks : List ℕ) → cleared (cleared marks) ≡ cleared marks
 cleared_again marks = cleared_as (cleared marks) marks (cleared_length marks)
 
--- all of them, one after another
-pub cleared_all : (marks now : List ℕ) (k : ℕ) → now ≡ replicate k 0 ++ drop k marks → k ≡ length marks → now ≡ cleared marks
-cleared_all marks now k e z = e ∙ rw (z, drop-length marks) (append-nil (cleared marks))
-
 -- KEPT: where a place reads a mark after one was put there, it is the one that was put; past the end none is
 pub put_past : (marks : List ℕ) (i m : ℕ) → length marks ≤ i → get_or (set marks i m) i 0 ≡ 0
 put_past marks i m p = rw (set_out marks i m p) (get_or-eq_default marks 0 p)

@@ -28,19 +28,12 @@ pub fn put(marks: &mut [u8], i: usize, m: usize)
 pub fn clear(marks: &mut [u8])
     ensures { marks.new ≡ cleared marks.old }
 {
-    let mut k = 0;
-    while k < marks.len() {
-        marks[k] = 0;
-        k += 1;
-    }
+    marks.fill(0);
 }
 
 // The larger of two heights.
 pub fn larger(a: usize, b: usize) -> usize
     ensures { (a ≤ result) × (b ≤ result) × ((n : ℕ) → a ≤ n → b ≤ n → result ≤ n) }
 {
-    if a < b {
-        return b;
-    }
-    a
+    a.max(b)
 }

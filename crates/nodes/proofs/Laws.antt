@@ -64,6 +64,10 @@ pub from_wrong : (a : ℕ) {x : Seen} {c p s : ℕ} → x ≡ wrong c p s → fr
 unfolding from
 from_wrong a e = rw e
 
+-- a refusal of the value at hand, said from where it starts
+pub at_start : (a : ℕ) {x : Seen} {c p : ℕ} → x ≡ wrong c p 0 → from a x ≡ wrong c p a
+at_start a e = let z : a + 0 ≡ a = omega arith in from_wrong a e ∙ rw z
+
 -- and a refusal that is said from a is one
 pub wrong_from : (a : ℕ) (x : Seen) {c p at : ℕ} → from a x ≡ wrong c p at → (s : ℕ) × (x ≡ wrong c p s) × (at ≡ a + s)
 unfolding from

@@ -1,6 +1,6 @@
 -- An object or a list whose own checks passed is opened: its numbers are the layout's, its children lie within it, and they are what is left to
 -- check. Assumes nothing.
-use Rattle.rules.proofs.Prelude.{◌≡◌, refl, sym, ◌∙◌, true, false, List, ℕ, suc, ◌+◌, ◌≤◌, ◌<◌, arith, length, passed, Passed, pass, stop, false_true}
+use Rattle.rules.proofs.Prelude.{◌≡◌, refl, sym, ◌∙◌, true, false, List, ℕ, suc, ◌+◌, ◌≤◌, ◌<◌, arith, length, passed, Passed, pass, stop, false_true, add-one}
 use Rattle.part.specs.Part.{part}
 use Rattle.part.proofs.Laws.{part_length}
 use Rattle.layout.specs.declared.Widths.{Widths}
@@ -15,11 +15,11 @@ use Rattle.layer.proofs.Alike as alike
 use Rattle.list.specs.List as list
 use Rattle.list.specs.Steps as list_steps
 use Rattle.nodes.specs.declared.Container.{Container}
-use Rattle.nodes.specs.Tree.{field_end, element_end, tree}
+use Rattle.nodes.specs.Tree.{from, field_end, element_end, tree}
 use Rattle.nodes.specs.Tree.Seen.{wrong}
 use Rattle.nodes.specs.Meaning.{head_of}
 use Rattle.nodes.specs.Steps.{Stands, Opened}
-use Rattle.nodes.proofs.Laws.{own_stops, own_passes, tree_object, tree_list}
+use Rattle.nodes.proofs.Laws.{at_start, own_stops, own_passes, tree_object, tree_list}
 use Rattle.nodes.proofs.Inside.{widths_are, count_is, start_is, end_of, laid, field_rises, object_inside, element_rises, element_inside}
 
 module _ (w : List ℕ) (a e : ℕ) (rises : a ≤ e) (inside : e ≤ length w) (x : Widths) (few : Few x) where
@@ -57,8 +57,9 @@ module _ (w : List ℕ) (a e : ℕ) (rises : a ≤ e) (inside : e ≤ length w) 
           only_children = λ m. tree_object d (part w a e) m is ∙ own_passes (tree d m) x (part w a e) (field_end x (part w a e)) passes;
         }
 
-    pub object_refused : (d : List ℕ) {c p : ℕ} → object.checks d (part w a e) ≡ stop c p → (m : ℕ) → tree d (suc m) (part w a e) ≡ wrong c p 0
-    object_refused d q m = tree_object d (part w a e) m is ∙ own_stops (tree d m) x (part w a e) (field_end x (part w a e)) q
+    pub object_refused : (d : List ℕ) {c p : ℕ} → object.checks d (part w a e) ≡ stop c p → (m : ℕ) → from a (tree d (m + 1) (part w a e)) ≡ wrong c p a
+    object_refused d q m =
+        rw (add-one m) (at_start a (tree_object d (part w a e) m is ∙ own_stops (tree d m) x (part w a e) (field_end x (part w a e)) q))
 
   -- A LIST
   module _ (is : head_of (part w a e) ≡ header.List x) where
@@ -77,5 +78,6 @@ module _ (w : List ℕ) (a e : ℕ) (rises : a ≤ e) (inside : e ≤ length w) 
           only_children = λ m. tree_list d (part w a e) m is ∙ own_passes (tree d m) x (part w a e) (element_end x (part w a e)) o.passes;
         }
 
-    pub list_refused : (d : List ℕ) {c p : ℕ} → list.checks x (part w a e) ≡ stop c p → (m : ℕ) → tree d (suc m) (part w a e) ≡ wrong c p 0
-    list_refused d q m = tree_list d (part w a e) m is ∙ own_stops (tree d m) x (part w a e) (element_end x (part w a e)) q
+    pub list_refused : (d : List ℕ) {c p : ℕ} → list.checks x (part w a e) ≡ stop c p → (m : ℕ) → from a (tree d (m + 1) (part w a e)) ≡ wrong c p a
+    list_refused d q m =
+        rw (add-one m) (at_start a (tree_list d (part w a e) m is ∙ own_stops (tree d m) x (part w a e) (element_end x (part w a e)) q))

@@ -1,4 +1,4 @@
--- What the steps of the check go by: a leaf, where a child stands, and the children of a container: the first of them are good, and the next
+-- What the steps of the check go by: a leaf, and the children of a container: the first of them are good, and the next
 -- one decides. Assumes nothing.
 use Rattle.rules.proofs.Prelude.{◌≡◌, sym, ap, ◌∙◌, true, false, List, ℕ, suc, ◌+◌, ◌-◌, ◌≤◌, ◌<◌, arith, get_or, pass, stop, add-one, and_last}
 use Rattle.part.specs.Part.{part}
@@ -11,28 +11,24 @@ use Rattle.texts.specs.Known.{KnownOf}
 use Rattle.list.specs.declared.Span as list
 use Rattle.list.specs.Steps.{ElementOf}
 use Rattle.leaf.specs.Leaf.{leaf}
-use Rattle.nodes.specs.declared.Finding.TheVariants as finding
+use Rattle.std.specs.Prelude.{Ok, Err}
 use Rattle.nodes.specs.declared.Container.{Container}
+use Rattle.nodes.specs.declared.Fault.{Fault}
 use Rattle.nodes.specs.Tree.{Seen, from, tree}
 use Rattle.nodes.specs.Tree.Seen.{fine, wrong}
 use Rattle.nodes.specs.Meaning.{head_of, IsLeaf, child_of}
-use Rattle.nodes.specs.Steps.{Marked, LeafOf, end_of, Stands, Opened, ChildOf}
-use Rattle.nodes.proofs.Laws.{from_wrong, wrong_from, here_pass, here_stop, tree_leaf, children_fine, child_wrong, more_levels}
-
--- a refusal of the value at hand, said from where it starts
-pub at_start : (a : ℕ) {x : Seen} {c p : ℕ} → x ≡ wrong c p 0 → from a x ≡ wrong c p a
-at_start a e = let z : a + 0 ≡ a = omega arith in from_wrong a e ∙ rw z
+use Rattle.nodes.specs.Steps.{Marked, LeafOf, BelowOf, end_of, Stands, Opened, ChildOf}
+use Rattle.nodes.specs.Answers.{refusal_number, refusal_place}
+use Rattle.nodes.proofs.Laws.{from_wrong, at_start, wrong_from, here_pass, here_stop, tree_leaf, children_fine, child_wrong, more_levels}
 
 -- what a value's first byte says
 pub head_is : (s : List ℕ) {b : ℕ} {r h : Header} → r ≡ header_of b → b ≡ get_or s 0 0 → r ≡ h → head_of s ≡ h
 head_is s says first is = sym (says ∙ ap header_of first) ∙ is
 
--- a container's own checks refuse it; and one at which no level is left is refused before them
-pub own_refused : (d s : List ℕ) (a left : ℕ) {c p : ℕ} → ((m : ℕ) → tree d (suc m) s ≡ wrong c p 0) → from a (tree d (left + 1) s) ≡ wrong c p a
-own_refused d s a left h = rw (add-one left) (at_start a (h left))
-
-pub too_deep_law : (d s : List ℕ) (a left : ℕ) → left ≡ 0 → tree d 0 s ≡ wrong 52 0 0 → from a (tree d left s) ≡ wrong 52 0 a
-too_deep_law d s a left z e = rw z (at_start a e)
+-- a container at which no level is left is refused before its own checks
+pub too_deep_law : (d s : List ℕ) (a left : ℕ) (bad : Fault) → BelowOf left a (Err bad) → tree d 0 s ≡ wrong 52 0 0
+    → from a (tree d left s) ≡ wrong (refusal_number bad.refusal) (refusal_place bad.refusal) bad.start
+too_deep_law d s a left bad b e = rw (b.0, b.1, b.2, b.3) (at_start a e)
 
 -- A LEAF from a to e of the whole
 module _ (w : List ℕ) (a e : ℕ) where
@@ -43,36 +39,8 @@ module _ (w : List ℕ) (a e : ℕ) where
   pub small_good : (d : List ℕ) → IsLeaf (head_of (part w a e)) × (leaf (part w a e) ≡ pass) → tree d 0 (part w a e) ≡ fine
   small_good d small = tree_leaf d (part w a e) 0 small.0 ∙ here_pass small.1
 
-  pub leaf_good : (t : Span) → leaf (part w a e) ≡ pass → KnownOf w t → LeafOf w a e (finding.Good 0 t)
+  pub leaf_good : (t : Span) → leaf (part w a e) ≡ pass → KnownOf w t → LeafOf w a e (Ok (record { height = 0; known = t }))
   leaf_good t f known d marks left l m = (omega arith, small_good d (l, f), record { marked = m; known = known })
-
--- A CHILD, by its container's numbers
-module _ (w : List ℕ) (a e : ℕ) (c : Container) (o : Stands w a e c) where
-  -- the container ends within its bytes
-  pub reaches : a + end c.widths (part w a e) ≤ e
-  reaches = omega (arith, o.numbers.passes, o.rises, part_length w a e o.rises o.inside)
-
-  pub element_stands : (k : ℕ) (r : list.Span) → c.is_list ≡ true → ElementOf c.widths (part w a e) k r
-      → ChildOf w a e c k (record { start = a + r.start; end = a + r.end })
-  element_stands k r is h =
-      record {
-        start_is = rw h.start_is;
-        end_is = rw (is, h.end_is);
-        rises = omega (arith, h.rises);
-        inside = omega (arith, h.inside, reaches);
-      }
-
-  pub field_stands : (k x : ℕ) → k < count c.widths (part w a e) → c.is_list ≡ false → x ≡ offset c.widths (part w a e) k
-      → ChildOf w a e c k (record { start = a + c.numbers.start + x; end = a + c.numbers.end })
-  field_stands k x p is e-is =
-      let rises : child_start c.widths (part w a e) k ≤ end c.widths (part w a e) = rw is at (o.child_rises k p) in
-      let n = o.numbers in
-      record {
-        start_is = omega (arith, n.start_is, e-is);
-        end_is = rw is (omega (arith, n.end_is));
-        rises = omega (arith, n.start_is, n.end_is, e-is, rises);
-        inside = omega (arith, n.end_is, reaches);
-      }
 
 -- the first k children are good with so many levels left
 abbrev pub Before : (d w : List ℕ) (a e : ℕ) → Container → (height k : ℕ) → Type 0

@@ -1,5 +1,5 @@
 -- What the steps of the tree's check answer each other, in the words of Tree.antt. Assumes nothing.
-use Rattle.std.specs.Prelude.{◌≡◌, true, cond, List, ℕ, suc, ◌+◌, ◌-◌, ◌≤◌, ◌<◌, length, get_or}
+use Rattle.std.specs.Prelude.{◌≡◌, true, cond, List, ℕ, suc, ◌+◌, ◌-◌, ◌≤◌, ◌<◌, length, get_or, Option, Some, None, Result, Ok, Err}
 use Rattle.part.specs.Part.{part}
 use Rattle.rules.specs.Rules.Found.{pass}
 use Rattle.dictionary.specs.declared.Header.{Header}
@@ -11,11 +11,9 @@ use Rattle.list.specs.List as list
 use Rattle.fields.specs.Steps.{Over}
 use Rattle.texts.specs.declared.Span.{Span}
 use Rattle.texts.specs.Known.{KnownOf}
-use Rattle.nodes.specs.declared.Finding.{Finding}
-use Rattle.nodes.specs.declared.Finding.TheVariants as finding
+use Rattle.nodes.specs.declared.Sound.{Sound}
+use Rattle.nodes.specs.declared.Fault.{Fault}
 use Rattle.nodes.specs.declared.Container.{Container}
-use Rattle.nodes.specs.declared.Opening.{Opening}
-use Rattle.nodes.specs.declared.Opening.TheVariants as opening
 use Rattle.nodes.specs.Tree.{from, children, field_end, element_end, tree}
 use Rattle.nodes.specs.Tree.Seen.{fine, wrong}
 use Rattle.nodes.specs.Meaning.{head_of, IsLeaf}
@@ -38,18 +36,25 @@ pub record Remembers (d w marks : List ℕ) (t : Span) : Type 0 where
   pub known : KnownOf w t
 
 -- good with so many levels left, which are no more than there are; or the first refusal, its start said from the whole
-abbrev pub CheckOf : (d : List ℕ) (left : ℕ) (w : List ℕ) (a e : ℕ) (marks : List ℕ) → Finding → Type 0
-CheckOf d left w a e marks (finding.Good h t) = (h ≤ left) × (tree d h (part w a e) ≡ fine) × Remembers d w marks t
-CheckOf d left w a e marks (finding.Bad r at) = from a (tree d left (part w a e)) ≡ wrong (refusal_number r) (refusal_place r) at
+abbrev pub CheckOf : (d : List ℕ) (left : ℕ) (w : List ℕ) (a e : ℕ) (marks : List ℕ) → Result Sound Fault → Type 0
+CheckOf d left w a e marks (Ok good) = (good.height ≤ left) × (tree d good.height (part w a e) ≡ fine) × Remembers d w marks good.known
+CheckOf d left w a e marks (Err bad) = from a (tree d left (part w a e)) ≡ wrong (refusal_number bad.refusal) (refusal_place bad.refusal) bad.start
 
--- what is recalled of the value from a to e, 0 for nothing: over any dictionary that passed and of which the marks speak
-abbrev pub Recalls : (left : ℕ) (w : List ℕ) (a e : ℕ) (marks : List ℕ) → ℕ → Type 0
-Recalls left w a e marks m =
-    0 < m → (m - 1 ≤ left) × ((d : List ℕ) → dictionary.checks d ≡ pass → length w ≤ limit → Marked d w marks → tree d (m - 1) (part w a e) ≡ fine)
+-- what is recalled of the value from a to e: over any dictionary that passed and of which the marks speak
+abbrev pub Recalls : (left : ℕ) (w : List ℕ) (a e : ℕ) (marks : List ℕ) → Option ℕ → Type 0
+Recalls left w a e marks (Some h) =
+    (h ≤ left) × ((d : List ℕ) → dictionary.checks d ≡ pass → length w ≤ limit → Marked d w marks → tree d h (part w a e) ≡ fine)
+Recalls left w a e marks None = Unit {0}
 
 -- a leaf's check: over any dictionary, with any levels left, and whatever is marked
-abbrev pub LeafOf : (w : List ℕ) (a e : ℕ) → Finding → Type 0
+abbrev pub LeafOf : (w : List ℕ) (a e : ℕ) → Result Sound Fault → Type 0
 LeafOf w a e r = (d marks : List ℕ) (left : ℕ) → IsLeaf (head_of (part w a e)) → Marked d w marks → CheckOf d left w a e marks r
+
+-- the levels below a container at a, of `left` with its own; or its refusal, whatever stands there
+abbrev pub BelowOf : (left a : ℕ) → Result ℕ Fault → Type 0
+BelowOf left a (Ok n) = left ≡ n + 1
+BelowOf left a (Err bad) =
+    (left ≡ 0) × (refusal_number bad.refusal ≡ 52) × (refusal_place bad.refusal ≡ 0) × (bad.start ≡ a)
 
 -- where a container's child k ends
 abbrev pub end_of : Container → List ℕ → ℕ → ℕ
@@ -71,12 +76,13 @@ pub record Opened (d w : List ℕ) (a e : ℕ) (c : Container) : Type 0 where
   pub only_children : (m : ℕ) → tree d (suc m) (part w a e) ≡ children (tree d m) c.widths (part w a e) (end_of c (part w a e))
 
 -- what a container's own checks come to, with any levels left below it
-abbrev pub OpeningOf : (d w : List ℕ) (a e : ℕ) → Opening → Type 0
-OpeningOf d w a e (opening.Refused r) = (m : ℕ) → tree d (suc m) (part w a e) ≡ wrong (refusal_number r) (refusal_place r) 0
-OpeningOf d w a e (opening.Open c) = Opened d w a e c
+abbrev pub OpeningOf : (d w : List ℕ) (a e : ℕ) → Result Container Fault → Type 0
+OpeningOf d w a e (Err bad) =
+    (left : ℕ) → from a (tree d (left + 1) (part w a e)) ≡ wrong (refusal_number bad.refusal) (refusal_place bad.refusal) bad.start
+OpeningOf d w a e (Ok c) = Opened d w a e c
 
 -- a list's, over any dictionary
-abbrev pub ListOpeningOf : (w : List ℕ) (a e : ℕ) → Opening → Type 0
+abbrev pub ListOpeningOf : (w : List ℕ) (a e : ℕ) → Result Container Fault → Type 0
 ListOpeningOf w a e r = (d : List ℕ) → OpeningOf d w a e r
 
 -- where child k stands in the whole

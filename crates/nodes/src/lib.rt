@@ -8,7 +8,7 @@ ghost use Rattle.layout.specs.Steps.{Few};
 ghost use Rattle.encoding.specs.declared.Header.TheVariants as header;
 ghost use Rattle.texts.specs.Known.{KnownOf};
 ghost use Rattle.nodes.specs.Meaning.{head_of};
-ghost use Rattle.nodes.specs.Steps.{Within, Recalls, LeafOf, Stands, ChildOf, OpeningOf, ListOpeningOf};
+ghost use Rattle.nodes.specs.Steps.{Within, Recalls, LeafOf, BelowOf, Stands, ChildOf, OpeningOf, ListOpeningOf};
 
 use texts::Span;
 
@@ -21,12 +21,18 @@ pub enum Refusal {
     TooDeep,
 }
 
-// Good by so many levels of containers, and the range of the whole that is known to be text now; or the first refusal, and where its value
-// starts.
+// A value that is good by so many levels of containers, and the range of the whole that is known to be text now.
+#[derive(Clone, Copy)]
+pub struct Sound {
+    pub height: usize,
+    pub known: Span,
+}
+
+// The first refusal, and where its value starts.
 #[derive(Drop)]
-pub enum Finding {
-    Good { height: usize, known: Span },
-    Bad { refusal: Refusal, start: usize },
+pub struct Fault {
+    pub refusal: Refusal,
+    pub start: usize,
 }
 
 // An object or a list whose own checks passed: the numbers of its header.
@@ -37,48 +43,51 @@ pub struct Container {
     pub is_list: bool,
 }
 
-// What a container's own checks come to.
-#[derive(Drop)]
-pub enum Opening {
-    Refused(Refusal),
-    Open(Container),
-}
-
-// 1 + the levels by which the marks know the value from a to e to be good, where that is few enough; 0 where they do not. A mark is of a
-// start: the value has to end within what is at hand, too.
-pub fn recalled(whole: &[u8], a: usize, e: usize, left: usize, marks: &[u8]) -> usize
+// The levels by which the marks know the value from a to e to be good, where these are few enough. A mark is of a start: the value has to end
+// within what is at hand, too.
+pub fn recalled(whole: &[u8], a: usize, e: usize, left: usize, marks: &[u8]) -> Option<usize>
     requires { (a ≤ e) × (e ≤ length whole.now) }
     ensures { Recalls left whole.now a e marks.now result }
 {
-    let m = marks::at(marks, a);
-    if m == 0 {
-        return 0;
+    let mark = marks::at(marks, a);
+    if mark == 0 {
+        return None;
     }
-    if left < m - 1 {
-        return 0;
+    let height = mark - 1;
+    if left < height {
+        return None;
     }
     if lengths::is_known(lengths::own_length(&whole[a..e])) {
-        return m;
+        return Some(height);
     }
-    0
+    None
 }
 
 // A leaf, with the range that is known to be text after it.
-pub fn check_leaf(whole: &[u8], a: usize, e: usize, known: Span) -> Finding
+pub fn check_leaf(whole: &[u8], a: usize, e: usize, known: Span) -> Result<Sound, Fault>
     requires { (a ≤ e) × (e ≤ length whole.now) × KnownOf whole.now known }
     ensures { LeafOf whole.now a e result }
 {
-    let leaf = leaf::check(whole, a, e, known);
-    match leaf {
-        leaf::Leaf::Refused(r) => Finding::Bad {
-            refusal: Refusal::Leaf(r),
-            start: a,
-        },
-        leaf::Leaf::Good(text) => Finding::Good {
+    match leaf::check(whole, a, e, known) {
+        Ok(text) => Ok(Sound {
             height: 0,
             known: text,
-        },
+        }),
+        Err(r) => Err(Fault {
+            refusal: Refusal::Leaf(r),
+            start: a,
+        }),
     }
+}
+
+// The levels that are left below a container that starts at a; with none, it is refused before its own checks.
+pub fn below(left: usize, a: usize) -> Result<usize, Fault>
+    ensures { BelowOf left a result }
+{
+    left.checked_sub(1).ok_or(Fault {
+        refusal: Refusal::TooDeep,
+        start: a,
+    })
 }
 
 // Where child k of the container from a to e stands.
@@ -109,14 +118,17 @@ pub fn open_object(
     a: usize,
     e: usize,
     w: layout::Widths,
-) -> Opening
+) -> Result<Container, Fault>
     requires { Within dict.now h whole.now a e × (head_of (part whole.now a e) ≡ header.Object w) × Few w }
     ensures { OpeningOf dict.now whole.now a e result }
 {
     let layer = object::check_layer(dict, h, &whole[a..e]);
     match layer {
-        layer::Head::Refused(r) => Opening::Refused(Refusal::Layer(r)),
-        layer::Head::Good(l) => Opening::Open(Container {
+        layer::Head::Refused(r) => Err(Fault {
+            refusal: Refusal::Layer(r),
+            start: a,
+        }),
+        layer::Head::Good(l) => Ok(Container {
             widths: w,
             numbers: layout::Numbers {
                 count: l.count,
@@ -130,14 +142,17 @@ pub fn open_object(
 }
 
 // A list's own checks.
-pub fn open_list(whole: &[u8], a: usize, e: usize, w: layout::Widths) -> Opening
+pub fn open_list(whole: &[u8], a: usize, e: usize, w: layout::Widths) -> Result<Container, Fault>
     requires { (a ≤ e) × (e ≤ length whole.now) × (head_of (part whole.now a e) ≡ header.List w) × Few w }
     ensures { ListOpeningOf whole.now a e result }
 {
     let layer = list::check(&whole[a..e], w);
     match layer {
-        list::Head::Refused(r) => Opening::Refused(Refusal::List(r)),
-        list::Head::Good(l) => Opening::Open(Container {
+        list::Head::Refused(r) => Err(Fault {
+            refusal: Refusal::List(r),
+            start: a,
+        }),
+        list::Head::Good(l) => Ok(Container {
             widths: w,
             numbers: l,
             is_list: true,

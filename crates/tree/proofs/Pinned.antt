@@ -9,8 +9,8 @@ use Rattle.leaf.specs.declared.Refusal.TheVariants as leaf
 use Rattle.nodes.specs.declared.Refusal.{Refusal}
 use Rattle.nodes.specs.declared.Refusal.TheVariants.{Layer, List as OfList, Leaf, TooDeep}
 use Rattle.nodes.specs.Answers.{refusal_number, refusal_place}
-use Rattle.marked.specs.declared.Verdict.{Verdict}
-use Rattle.marked.specs.declared.Verdict.TheVariants as verdict
+use Rattle.std.specs.Prelude.{Result, Ok, Err}
+use Rattle.nodes.specs.declared.Fault.{Fault}
 use Rattle.marked.specs.Answers.{verdict_numbers}
 use Rattle.marked.specs.Promises.{CheckAtPromise}
 use Rattle.tree.specs.Promises.{CheckPromise, CheckWithPromise}
@@ -34,23 +34,23 @@ refusal_back (Leaf leaf.NotUtf8) = refl
 refusal_back TooDeep = refl
 
 -- ANSWERS
-verdict_back : Answer → Verdict
-verdict_back (gives c [] p) = verdict.Accepted 0
-verdict_back (gives c (a ∷ []) p) = verdict.Refused (refusal_of c p) a
-verdict_back (gives c (a ∷ e ∷ x) p) = verdict.Accepted e
+verdict_back : Answer → Result ℕ Fault
+verdict_back (gives c [] p) = Ok 0
+verdict_back (gives c (a ∷ []) p) = Err (record { refusal = refusal_of c p; start = a })
+verdict_back (gives c (a ∷ e ∷ x) p) = Ok e
 
-verdict_back_law : (v : Verdict) → verdict_back (verdict_numbers v) ≡ v
+verdict_back_law : (v : Result ℕ Fault) → verdict_back (verdict_numbers v) ≡ v
 unfolding verdict_back
-verdict_back_law (verdict.Refused r a) = rw (refusal_back r)
-verdict_back_law (verdict.Accepted e) = refl
+verdict_back_law (Err bad) = rw (refusal_back bad.refusal)
+verdict_back_law (Ok e) = refl
 
 -- THE THEOREMS, a call each
-pub check_at_pinned : (depth : ℕ) (d v : List ℕ) (r q : Verdict) → CheckAtPromise depth d v r → CheckAtPromise depth d v q → r ≡ q
+pub check_at_pinned : (depth : ℕ) (d v : List ℕ) (r q : Result ℕ Fault) → CheckAtPromise depth d v r → CheckAtPromise depth d v q → r ≡ q
 check_at_pinned depth d v r q a b = by_back verdict_numbers verdict_back verdict_back_law r q (a ∙ sym b)
 
-pub check_pinned : (d v : List ℕ) (r q : Verdict) → CheckPromise d v r → CheckPromise d v q → r ≡ q
+pub check_pinned : (d v : List ℕ) (r q : Result ℕ Fault) → CheckPromise d v r → CheckPromise d v q → r ≡ q
 check_pinned d v = check_at_pinned 0 d v
 
-pub check_with_pinned : (d v marks : List ℕ) (r q : Verdict) (after after' : List ℕ) → CheckWithPromise d v marks r after → CheckWithPromise d v marks q after'
+pub check_with_pinned : (d v marks : List ℕ) (r q : Result ℕ Fault) (after after' : List ℕ) → CheckWithPromise d v marks r after → CheckWithPromise d v marks q after'
     → (r ≡ q) × (after ≡ after')
 check_with_pinned d v marks r q after after' a b = (check_pinned d v r q a.answers b.answers, a.leaves ∙ sym b.leaves)

@@ -4,13 +4,14 @@
 ghost use Rattle.marked.specs.Promises.{CheckAtPromise};
 ghost use Rattle.tree.specs.Promises.{CheckPromise, CheckWithPromise};
 
-use marked::{Verdict, check_marked};
+use marked::check_marked;
+use nodes::Fault;
 
 // How many starts have marks of the call's own.
 const OWN: usize = 65_536;
 
 // The full check of a value that is met at a depth, with marks of its own for the first 65,536 starts. A small value does not pay for many.
-pub fn check_at(dict: &[u8], value: &[u8], depth: usize) -> Verdict
+pub fn check_at(dict: &[u8], value: &[u8], depth: usize) -> Result<usize, Fault>
     ensures { CheckAtPromise depth dict.now value.now result }
 {
     if value.len() <= 512 {
@@ -26,7 +27,7 @@ pub fn check_at(dict: &[u8], value: &[u8], depth: usize) -> Verdict
 }
 
 // The full check of a value over a dictionary.
-pub fn check(dict: &[u8], value: &[u8]) -> Verdict
+pub fn check(dict: &[u8], value: &[u8]) -> Result<usize, Fault>
     ensures { CheckPromise dict.now value.now result }
 {
     check_at(dict, value, 0)
@@ -34,7 +35,7 @@ pub fn check(dict: &[u8], value: &[u8]) -> Verdict
 
 // The same with lent marks, one a start: a value of more than 65,536 bytes is then looked into once wherever it is referred to. They may hold
 // anything before, and are all 0 afterwards. Too few to be worth it are left aside.
-pub fn check_with(dict: &[u8], value: &[u8], marks: &mut [u8]) -> Verdict
+pub fn check_with(dict: &[u8], value: &[u8], marks: &mut [u8]) -> Result<usize, Fault>
     ensures { CheckWithPromise dict.now value.now marks.old result marks.new }
 {
     marks::clear(marks);

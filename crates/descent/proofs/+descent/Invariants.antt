@@ -1,32 +1,22 @@
--- The measures of the five functions are the levels left, and within a level the order in which they call one another. Assumes nothing.
-use Rattle.std.proofs.Common.{◌≡◌, ◌+◌, ◌-◌, ◌*◌, ◌≤◌, length}
+-- The measures of the three functions are the levels left, and within a level the order in which they call one another. Assumes nothing.
+use Rattle.std.proofs.Common.{◌≡◌, ◌+◌, ◌*◌, ◌≤◌, length}
 use Rattle.nodes.specs.Steps.{Remembers}
 use Rattle.nodes.proofs.Steps.{Before}
 use Rattle.descent.proofs.+descent.Given as goal
 
 abbrev pub decreases-check_children : goal.decreases-check_children
-decreases-check_children l = 4 * l.left + 2
-
-abbrev pub decreases-check_list : goal.decreases-check_list
-decreases-check_list l = 4 * l.left + 3
+decreases-check_children l = 3 * l.left + 2
 
 abbrev pub decreases-check_new : goal.decreases-check_new
-decreases-check_new l = 4 * l.left
-
-abbrev pub decreases-check_object : goal.decreases-check_object
-decreases-check_object l = 4 * l.left + 3
+decreases-check_new l = 3 * l.left
 
 abbrev pub decreases-check_value : goal.decreases-check_value
-decreases-check_value l = 4 * l.left + 1
+decreases-check_value l = 3 * l.left + 1
 
 -- the first k children are good, and what is remembered holds
 abbrev pub invariant-check_children-loop-k : goal.invariant-check_children-loop-k
 invariant-check_children-loop-k l =
-    (l.k ≤ l.count)
-    × (l.height ≤ l.left)
+    (l.height ≤ l.left)
     × Before l.dict l.whole l.a l.e l.c l.height l.k
     × Remembers l.dict l.whole l.marks l.text
     × (length l.marks ≡ length l.initial.marks)
-
-abbrev pub decreases-check_children-loop-k : goal.decreases-check_children-loop-k
-decreases-check_children-loop-k l = l.count - l.k
