@@ -2,10 +2,11 @@
 -- Assumes nothing.
 use Rattle.rules.proofs.Prelude.{◌≡◌, refl, ◌∙◌, ◌↔◌, List, ℕ, ◌<◌, arith, length, get_or, first, ◌or_else◌, pass, stop}
 use Rattle.rules.proofs.Prelude.{◌&◌, Meant, by_rows, meant_pass, meant_stop, first_at, first_pass, surely, ◌<?◌}
+use Rattle.std.specs.Prelude.{Result, Ok, Err}
 use Rattle.rules.proofs.Laws.Meant.{one_stops}
 use Rattle.chars.proofs.Laws.{text_whole, text_all}
-use Rattle.lengths.specs.declared.Length.{Length}
-use Rattle.lengths.specs.declared.Length.TheVariants.{Known, Cut, Sum, Unknown, Longer}
+use Rattle.lengths.specs.declared.Flaw.{Flaw}
+use Rattle.lengths.specs.declared.Flaw.TheVariants.{Cut, Sum, Unknown, Longer}
 use Rattle.encoding.specs.Encoding.{header_of}
 use Rattle.lengths.specs.Lengths.{own_length}
 use Rattle.chars.specs.Rfc3629.{Text, text_up_to}
@@ -24,15 +25,15 @@ module _ (s : List ℕ) where
   unfolding leaf length_found text_rules ◌or_else◌
   mean = go (own_length s) refl
     where
-      go : (l : Length) → own_length s ≡ l → Meant (GoodLeaf s) (Refusal s) (length_found l or_else first (text_rules (header_of (get_or s 0 0)) s))
-      go (Known n) e =
+      go : (l : Result ℕ Flaw) → own_length s ≡ l → Meant (GoodLeaf s) (Refusal s) (length_found l or_else first (text_rules (header_of (get_or s 0 0)) s))
+      go (Ok n) e =
           by_rows (GoodLeaf s) (Refusal s) (text_rules (header_of (get_or s 0 0)) s)
           ((λ h. not_text e h.0 (λ t. omega (arith, h.1, text_whole _ t))) & λ f.
           record { bytes = n; measured = e; is_text = λ b. text_all (text (header_of (get_or s 0 0)) s) (f b) })
-      go Cut e = one_stops (header_cut e)
-      go Sum e = one_stops (past_range e)
-      go Unknown e = one_stops (no_such_type e)
-      go Longer e = one_stops (past_bytes e)
+      go (Err Cut) e = one_stops (header_cut e)
+      go (Err Sum) e = one_stops (past_range e)
+      go (Err Unknown) e = one_stops (no_such_type e)
+      go (Err Longer) e = one_stops (past_bytes e)
 
   pub good : leaf s ≡ pass → GoodLeaf s
   good = meant_pass mean

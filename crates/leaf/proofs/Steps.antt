@@ -5,12 +5,11 @@ use Rattle.part.specs.Part.{part}
 use Rattle.part.proofs.Laws.{part_length, part_first, part_part}
 use Rattle.encoding.specs.declared.Header.{Header}
 use Rattle.encoding.specs.declared.Header.TheVariants as header
-use Rattle.lengths.specs.declared.Length.TheVariants.{Known}
 use Rattle.encoding.specs.Encoding.{header_of}
 use Rattle.lengths.specs.Lengths.{own_length}
 use Rattle.lengths.proofs.Means.{known}
 use Rattle.lengths.proofs.Appended.{some_bytes, at_hand}
-use Rattle.texts.specs.declared.Span.{Span}
+use Rattle.part.specs.declared.Span.{Span}
 use Rattle.texts.specs.Known.{KnownOf}
 use Rattle.leaf.specs.declared.Refusal.{Refusal}
 use Rattle.leaf.specs.Leaf.{is_string, text_start, text}
@@ -21,10 +20,10 @@ use Rattle.leaf.proofs.Means.{all_pass, is_due}
 
 -- a leaf of n bytes from a to e of the whole w, of which a range is known to be text
 abbrev Stands : (w : List ℕ) (a e n : ℕ) → Span → Type 0
-Stands w a e n t = (a ≤ e) × (e ≤ length w) × KnownOf w t × (own_length (part w a e) ≡ Known n)
+Stands w a e n t = (a ≤ e) × (e ≤ length w) × KnownOf w t × (own_length (part w a e) ≡ Ok n)
 
 module _ {w : List ℕ} {a e n : ℕ} {t : Span} (stands : Stands w a e n t) where
-  own : own_length (part w a e) ≡ Known n
+  own : own_length (part w a e) ≡ Ok n
   own = stands.3
 
   size : length (part w a e) ≡ e - a

@@ -1,5 +1,5 @@
 -- A leaf, a primitive or a short string: its checks in their order (document 02, h). s is the bytes that begin with it. Assumes nothing.
-use Rattle.std.specs.Prelude.{Bool, true, false, List, [], ◌∷◌, ℕ, eqb, length, get_or}
+use Rattle.std.specs.Prelude.{Bool, true, false, List, [], ◌∷◌, ℕ, eqb, length, get_or, Result, Ok, Err}
 use Rattle.part.specs.Part.{part}
 use Rattle.chars.specs.Rfc3629.{text_up_to}
 use Rattle.rules.specs.Rules.{Rule, Found, first, ◌or_else◌}
@@ -8,8 +8,8 @@ use Rattle.rules.specs.Rules.Rule.{◌⇒◌at◌}
 use Rattle.rules.specs.Rules.Test.{◌<?◌, is, ◌and◌}
 use Rattle.encoding.specs.declared.Header.{Header}
 use Rattle.encoding.specs.declared.Header.TheVariants as header
-use Rattle.lengths.specs.declared.Length.{Length}
-use Rattle.lengths.specs.declared.Length.TheVariants.{Known, Cut, Sum, Unknown, Longer}
+use Rattle.lengths.specs.declared.Flaw.{Flaw}
+use Rattle.lengths.specs.declared.Flaw.TheVariants.{Cut, Sum, Unknown, Longer}
 use Rattle.encoding.specs.Encoding.{header_of}
 use Rattle.lengths.specs.Lengths.{own_length, bytes_of}
 
@@ -25,12 +25,12 @@ IsLeaf (header.Object w) = ⊥
 IsLeaf (header.List w) = ⊥
 
 -- 51 for an unknown primitive type, 50 for all else that has no own length within its bytes and the u32 range; no bytes are such
-unfoldable pub length_found : Length → Found
-length_found (Known n) = pass
-length_found Cut = stop 50 0
-length_found Sum = stop 50 0
-length_found Unknown = stop 51 0
-length_found Longer = stop 50 0
+unfoldable pub length_found : Result ℕ Flaw → Found
+length_found (Ok n) = pass
+length_found (Err Cut) = stop 50 0
+length_found (Err Sum) = stop 50 0
+length_found (Err Unknown) = stop 51 0
+length_found (Err Longer) = stop 50 0
 
 -- a string has type 16, or is short. Type 15 is bytes, which are not judged
 unfoldable pub is_string : Header → Bool

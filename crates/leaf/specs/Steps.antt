@@ -4,7 +4,7 @@ use Rattle.part.specs.Part.{part}
 use Rattle.chars.specs.Rfc3629.{Text}
 use Rattle.rules.specs.Rules.Found.{pass, stop}
 use Rattle.texts.specs.Known.{KnownOf}
-use Rattle.texts.specs.declared.Span.{Span}
+use Rattle.part.specs.declared.Span.{Span}
 use Rattle.leaf.specs.declared.Refusal.{Refusal}
 use Rattle.leaf.specs.Leaf.{head_of, IsLeaf, leaf}
 use Rattle.leaf.specs.Answers.{refusal_number}

@@ -1,34 +1,38 @@
 // Leaves, primitives and short strings: their length, and the text of strings (variant.rs: Variant; utils.rs: string_from_slice).
 #![tactic(auto)]
 
-ghost use Rattle.std.specs.Prelude.{◌≡◌, true, ◌+◌, ◌≤◌, ◌<◌, length};
+ghost use Rattle.std.specs.Prelude.{◌≡◌, true, ◌+◌, ◌≤◌, ◌<◌, length, Ok};
 ghost use Rattle.part.specs.Part.{part};
 ghost use Rattle.chars.specs.Rfc3629.{Text};
-ghost use Rattle.lengths.specs.declared.Length.TheVariants.{Known};
 ghost use Rattle.lengths.specs.Lengths.{own_length};
 ghost use Rattle.texts.specs.Known.{KnownOf};
 ghost use Rattle.leaf.specs.Steps.{TextOf, LeafOf, SmallOf};
 
 use encoding::Header;
-use lengths::Length;
-use texts::{Judged, Span};
+use part::Span;
 
 // One case for each of the refusals 50, 51 and 54.
-#[derive(Drop)]
+#[derive(Clone, Copy)]
 pub enum Refusal {
     Short,
     Unknown,
     NotUtf8,
 }
 
-// Whether there are bytes, and room for them.
-fn fits(bytes: usize, room: usize) -> bool
-    ensures { result ≡ true → (0 < bytes) × (bytes ≤ room) }
-{
-    if bytes == 0 {
-        return false;
+impl From<lengths::Flaw> for Refusal {
+    ghost use Rattle.std.specs.Prelude.{◌≡◌};
+    ghost use Rattle.leaf.specs.Answers.{of_length};
+
+    ghost from_gives = { λ flaw r. r ≡ of_length flaw };
+
+    fn from(flaw: lengths::Flaw) -> Refusal {
+        match flaw {
+            lengths::Flaw::Cut => Refusal::Short,
+            lengths::Flaw::Sum => Refusal::Short,
+            lengths::Flaw::Unknown => Refusal::Unknown,
+            lengths::Flaw::Longer => Refusal::Short,
+        }
     }
-    bytes <= room
 }
 
 // Whether a short string's n bytes of text, after its header byte at a, are there and are UTF-8.
@@ -53,7 +57,10 @@ pub fn is_small(whole: &[u8], a: usize, e: usize) -> bool
     }
     let header = encoding::header_of(whole[a]);
     match header {
-        Header::Primitive(t) => fits(lengths::fixed_length(t), e - a),
+        Header::Primitive(t) => match lengths::fixed_length(t) {
+            Some(bytes) => bytes <= e - a,
+            None => false,
+        },
         Header::ShortString(n) => is_short_text(whole, a, e, n),
         Header::Object(_) => false,
         Header::List(_) => false,
@@ -65,16 +72,12 @@ fn check_text(whole: &[u8], i: usize, j: usize, known: Span) -> Result<Span, Ref
     requires { KnownOf whole.now known × (i ≤ j) × (j ≤ length whole.now) }
     ensures { TextOf whole.now i j result }
 {
-    let judged = texts::check(whole, i, j, known);
-    match judged {
-        Judged::Text(now_known) => Ok(now_known),
-        Judged::NotText => Err(Refusal::NotUtf8),
-    }
+    texts::check(whole, i, j, known).ok_or(Refusal::NotUtf8)
 }
 
 // The leaf from a to e of the whole, whose own bytes are n.
 fn check_measured(whole: &[u8], a: usize, e: usize, n: usize, known: Span) -> Result<Span, Refusal>
-    requires { (a ≤ e) × (e ≤ length whole.now) × KnownOf whole.now known × (own_length (part whole.now a e) ≡ Known n) }
+    requires { (a ≤ e) × (e ≤ length whole.now) × KnownOf whole.now known × (own_length (part whole.now a e) ≡ Ok n) }
     ensures { LeafOf whole.now a e result }
 {
     let header = encoding::header_of(whole[a]);
@@ -97,12 +100,6 @@ pub fn check(whole: &[u8], a: usize, e: usize, known: Span) -> Result<Span, Refu
     requires { (a ≤ e) × (e ≤ length whole.now) × KnownOf whole.now known }
     ensures { LeafOf whole.now a e result }
 {
-    let length = lengths::own_length(&whole[a..e]);
-    match length {
-        Length::Known(n) => check_measured(whole, a, e, n, known),
-        Length::Cut => Err(Refusal::Short),
-        Length::Sum => Err(Refusal::Short),
-        Length::Unknown => Err(Refusal::Unknown),
-        Length::Longer => Err(Refusal::Short),
-    }
+    let n = lengths::own_length(&whole[a..e])?;
+    check_measured(whole, a, e, n, known)
 }

@@ -1,9 +1,8 @@
 -- Marks: what a place reads after marks are cleared and after one is kept. The rest the library says of `set`: get_or-set_same,
 -- getD-set-other and set_out of lib.Seq, and length-set of lib.ListN. Assumes nothing.
-use Rattle.rules.proofs.Prelude.{◌≡◌, ap, ◌∙◌, List, ℕ, ◌≤◌, ◌<◌, dec_lt, arith, length, drop, ◌++◌, get_or, set, replicate}
+use Rattle.rules.proofs.Prelude.{◌≡◌, ap, List, ℕ, ◌≤◌, ◌<◌, dec_lt, arith, length, get_or, set, replicate}
 use lib.ListN.{length-replicate, get_or-replicate, get_or-eq_default}
-use lib.Seq.{get_or-set_same, set_out, drop-length}
-use mathlib.Core.List.{append-nil}
+use lib.Seq.{get_or-set_same, set_out}
 use Rattle.marks.specs.Marks.{cleared}
 
 -- CLEARED: as many as were lent, each reads as 0; it goes by their number alone, and clearing again changes nothing

@@ -1,11 +1,11 @@
 -- The children of an object or a list whose own checks passed lie within it; and such a container has an own length. Assumes nothing.
 use Rattle.rules.proofs.Prelude.{◌≡◌, refl, sym, ap, ◌∙◌, List, ℕ, ◌+◌, ◌≤◌, ◌<◌, arith, length, get_or, Passed, first, pass, passed}
+use Rattle.std.specs.Prelude.{Ok}
 use Rattle.layout.specs.declared.Widths.{Widths}
 use Rattle.layout.specs.Layout as layout
 use Rattle.layout.specs.Layout.{count, child_start, end}
 use Rattle.layout.proofs.Laws.{end_is}
 use Rattle.encoding.specs.declared.Header.TheVariants as header
-use Rattle.lengths.specs.declared.Length.TheVariants.{Known}
 use Rattle.encoding.specs.Encoding.{object_widths}
 use Rattle.lengths.specs.Lengths.{own_length, bytes_by}
 use Rattle.lengths.specs.Meaning.{Counted, Encoded}
@@ -46,7 +46,7 @@ module _ (s : List ℕ) {w : Widths} (is : head_of s ≡ header.Object w) where
   offset_is k = rw widths_are (alike.offset_is s k)
 
   -- an own length says that its header passes
-  pub header_passes : {n : ℕ} → length s ≤ limit → own_length s ≡ Known n → Passed (head_rules s)
+  pub header_passes : {n : ℕ} → length s ≤ limit → own_length s ≡ Ok n → Passed (head_rules s)
   unfolding bytes_by
   header_passes {n} l e =
       let k = known s n e in
@@ -66,7 +66,7 @@ module _ (s : List ℕ) {w : Widths} (is : head_of s ≡ header.Object w) where
 
   module _ (d : List ℕ) (passes : object.checks d s ≡ pass) where
     -- and so does passing
-    pub object_measured : own_length s ≡ Known (end w s)
+    pub object_measured : own_length s ≡ Ok (end w s)
     object_measured = rw end_of (alike.own_length_law s d _ _ _ (object-means.good d s passes))
 
     pub field_rises : (k : ℕ) → k < count w s → child_start w s k ≤ field_end w s k
@@ -79,20 +79,20 @@ module _ (s : List ℕ) {w : Widths} (is : head_of s ≡ header.Object w) where
 
 -- A LIST
 module _ (s : List ℕ) {w : Widths} (is : head_of s ≡ header.List w) where
-  pub list_header : {n : ℕ} → own_length s ≡ Known n → Passed (layout.rules 0 0 0 w s)
+  pub list_header : {n : ℕ} → own_length s ≡ Ok n → Passed (layout.rules 0 0 0 w s)
   unfolding bytes_by
   list_header {n} e =
       let encoded : Encoded (header.List w) s n = rw is at (known s n e).1 in
       omega (arith, encoded.headed, encoded.bytes, encoded.fits, encoded.there)
 
   module _ (passes : list.checks w s ≡ pass) where
-    pub list_measured : own_length s ≡ Known (end w s)
+    pub list_measured : own_length s ≡ Ok (end w s)
     unfolding bytes_by
     list_measured =
         let h = list-laws.passes w s passes in
         let counted : Counted w s = record { count_there = omega arith; offsets_fit = omega arith; start_fits = omega arith; offsets_there = omega arith } in
         let encoded : Encoded (header.List w) s (end w s) = record { headed = counted; bytes = refl; fits = omega arith; there = omega arith } in
-        (exactly_when s (Known (end w s))).1 (measured (omega arith) (rw is encoded))
+        (exactly_when s (Ok (end w s))).1 (measured (omega arith) (rw is encoded))
 
 -- its elements
 module _ (s : List ℕ) (w : Widths) (passes : list.checks w s ≡ pass) where

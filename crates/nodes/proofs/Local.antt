@@ -2,6 +2,7 @@
 -- value has an own length. So a mark of a start answers for every end that the value's own length fits. Assumes nothing.
 use Rattle.rules.proofs.Prelude.{◌≡◌, refl, sym, ap, ◌∙◌, true, List, ◌++◌, ℕ, zero, suc, ◌+◌, ◌-◌, ◌≤◌, ◌<◌, arith, length, get_or, Passed, pass}
 use Rattle.rules.proofs.Prelude.{length-append, List·getD-append, drop, take, take-append-drop}
+use Rattle.std.specs.Prelude.{Ok}
 use native.Mathlib.Decide.{dec_le}
 use lib.Seq.{take-take}
 use Rattle.part.specs.Part.{part}
@@ -13,7 +14,6 @@ use Rattle.layout.specs.Layout as layout
 use Rattle.layout.specs.Layout.{count, child_start, end}
 use Rattle.layout.proofs.Appended as layout-appended
 use Rattle.encoding.specs.declared.Header.TheVariants as header
-use Rattle.lengths.specs.declared.Length.TheVariants.{Known}
 use Rattle.encoding.specs.Encoding.{header_of}
 use Rattle.lengths.specs.Lengths.{own_length}
 use Rattle.lengths.proofs.Means.{known}
@@ -32,7 +32,7 @@ use Rattle.nodes.proofs.Inside.{header_passes, laid, object_measured, field_rise
 use Rattle.nodes.proofs.Inside.{element_rises, element_inside, list_inside}
 
 -- A GOOD VALUE HAS AN OWN LENGTH
-pub good_measured : (d : List ℕ) (n : ℕ) (s : List ℕ) → tree d n s ≡ fine → (m : ℕ) × (own_length s ≡ Known m)
+pub good_measured : (d : List ℕ) (n : ℕ) (s : List ℕ) → tree d n s ≡ fine → (m : ℕ) × (own_length s ≡ Ok m)
 good_measured d zero s e =
     by_head s (λ l. (_, leaf-local.measured s (here_fine (leaf s) (sym (tree_leaf d s 0 l) ∙ e))))
     (λ w h. wrong_fine (sym (object_deep d s h) ∙ e)) (λ w h. wrong_fine (sym (list_deep d s h) ∙ e))
@@ -42,7 +42,7 @@ good_measured d (suc n) s e =
     (λ w h. (end w s, list_measured s h (fine_layer (tree d n) w s (element_end w s) _ (sym (tree_list d s n h) ∙ e)).0))
 
 -- BYTES ADDED after a value with an own length
-module _ (d : List ℕ) (over : dictionary.checks d ≡ pass) (s u : List ℕ) (m : ℕ) (own : own_length s ≡ Known m) (limited : length (s ++ u) ≤ limit) where
+module _ (d : List ℕ) (over : dictionary.checks d ≡ pass) (s u : List ℕ) (m : ℕ) (own : own_length s ≡ Ok m) (limited : length (s ++ u) ≤ limit) where
   pub head_same : head_of (s ++ u) ≡ head_of s
   head_same = ap header_of (List·getD-append s u 0 0 (known s m own).0)
 
@@ -113,7 +113,7 @@ module _ (w : List ℕ) where
     within a e p q = omega (arith, part_length w a e p q)
 
     pub recall : (h a e e' m : ℕ) → a ≤ e → e ≤ length w → a ≤ e' → e' ≤ length w → tree d h (part w a e) ≡ fine
-        → own_length (part w a e') ≡ Known m → tree d h (part w a e') ≡ fine
+        → own_length (part w a e') ≡ Ok m → tree d h (part w a e') ≡ fine
     recall h a e e' m p q p' q' good own = go (dec_le e e')
       where
         go : Dec (e ≤ e') → tree d h (part w a e') ≡ fine

@@ -1,14 +1,14 @@
 -- Marks: what is kept is so, and what is recalled holds to the end at hand. Assumes nothing.
 use Rattle.rules.proofs.Prelude.{◌≡◌, sym, ◌∙◌, List, ℕ, suc, ◌+◌, ◌-◌, ◌≤◌, ◌<◌, arith, length, get_or, set, pass}
+use Rattle.std.specs.Prelude.{Ok}
 use native.Mathlib.Decide.{ℕ_discrete}
 use lib.Seq.{get_or-set_other}
 use Rattle.walk.specs.Walk.Items.{none}
 use Rattle.part.specs.Part.{part}
 use Rattle.dictionary.specs.Limits.{limit}
 use Rattle.dictionary.specs.Dictionary as dictionary
-use Rattle.lengths.specs.declared.Length.TheVariants.{Known}
 use Rattle.lengths.specs.Lengths.{own_length}
-use Rattle.texts.specs.declared.Span.{Span}
+use Rattle.part.specs.declared.Span.{Span}
 use Rattle.marks.specs.Marks.{cleared}
 use Rattle.marks.proofs.Laws.{cleared_at, put_read}
 use Rattle.nodes.specs.Tree.{tree}
@@ -41,7 +41,7 @@ module _ (d w : List ℕ) where
 
   -- and what is marked is good, to an end that its own length fits
   module _ (over : dictionary.checks d ≡ pass) (limited : length w ≤ limit) (marks : List ℕ) (known : Marked d w marks) where
-    pub marked_use : (a e m n : ℕ) → a ≤ e → e ≤ length w → m ≡ get_or marks a 0 → 0 < m → own_length (part w a e) ≡ Known n → tree d (m - 1) (part w a e) ≡ fine
+    pub marked_use : (a e m n : ℕ) → a ≤ e → e ≤ length w → m ≡ get_or marks a 0 → 0 < m → own_length (part w a e) ≡ Ok n → tree d (m - 1) (part w a e) ≡ fine
     marked_use a e m n p q is some own =
         let up : m ≡ suc (m - 1) = omega arith in
         let k = known a (m - 1) (sym is ∙ up) in

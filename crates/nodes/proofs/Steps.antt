@@ -6,7 +6,7 @@ use Rattle.part.proofs.Laws.{part_part, part_length}
 use Rattle.layout.specs.Layout.{count, offset, child_start, end}
 use Rattle.encoding.specs.declared.Header.{Header}
 use Rattle.encoding.specs.Encoding.{header_of}
-use Rattle.texts.specs.declared.Span.{Span}
+use Rattle.part.specs.declared.Span.{Span}
 use Rattle.texts.specs.Known.{KnownOf}
 use Rattle.list.specs.declared.Span as list
 use Rattle.list.specs.Steps.{ElementOf}

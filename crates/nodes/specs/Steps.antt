@@ -9,7 +9,7 @@ use Rattle.layout.specs.Layout.{count, child_start, end}
 use Rattle.layout.specs.Steps.{Few, NumbersOf}
 use Rattle.list.specs.List as list
 use Rattle.fields.specs.Steps.{Over}
-use Rattle.texts.specs.declared.Span.{Span}
+use Rattle.part.specs.declared.Span.{Span}
 use Rattle.texts.specs.Known.{KnownOf}
 use Rattle.nodes.specs.declared.Sound.{Sound}
 use Rattle.nodes.specs.declared.Fault.{Fault}

@@ -1,5 +1,6 @@
 -- A tree is accepted, with the value's own length, exactly when it is a good one in the words of Meaning.antt of `nodes`. Assumes nothing.
 use Rattle.rules.proofs.Prelude.{◌≡◌, refl, sym, ap, ◌∙◌, ◌↔◌, List, [], ◌∷◌, ℕ, zero, suc, ◌-◌, ◌<◌, accept, pass, passed, first}
+use Rattle.std.specs.Prelude.{Ok}
 use Rattle.part.specs.Part.{part}
 use Rattle.dictionary.specs.Limits.{limit}
 use Rattle.dictionary.specs.Dictionary as dictionary
@@ -8,7 +9,6 @@ use Rattle.metadata.proofs.Accepts as dictionary-accepts
 use Rattle.layout.specs.declared.Widths.{Widths}
 use Rattle.layout.specs.Layout.{count, start, end}
 use Rattle.encoding.specs.declared.Header.TheVariants as header
-use Rattle.lengths.specs.declared.Length.TheVariants.{Known}
 use Rattle.lengths.specs.Lengths.{own_length, bytes_of}
 use Rattle.layer.specs.Object as object
 use Rattle.layer.specs.Meaning.{Layer}
@@ -78,15 +78,15 @@ module _ (d v : List ℕ) where
   good_checks g = by_tree 0 d v (dictionary-accepts.all_pass d _ _ g.over) g.not_long ∙ rw all_levels (is_accepted d g.good)
 
   -- a good tree has an own length
-  pub own_length_law : GoodTree d v → own_length v ≡ Known (bytes_of (own_length v))
+  pub own_length_law : GoodTree d v → own_length v ≡ Ok (bytes_of (own_length v))
   own_length_law g = let m = good_measured d 32 v (is_accepted d g.good) in rw m.1
 
   -- THE THEOREM
-  pub accepts : (e : ℕ) → (verdict d v ≡ accept (0 ∷ e ∷ [])) ↔ (GoodTree d v × (own_length v ≡ Known e))
+  pub accepts : (e : ℕ) → (verdict d v ≡ accept (0 ∷ e ∷ [])) ↔ (GoodTree d v × (own_length v ≡ Ok e))
   unfolding verdict_at
   accepts e = (
     (λ a. let t = told_fine (bytes_of (own_length v)) (checks d v) a in
         let g = checks_good t.0 in
-        (g, own_length_law g ∙ ap Known t.1)),
+        (g, own_length_law g ∙ ap Ok t.1)),
     λ g. let own : bytes_of (own_length v) ≡ e = rw g.1 in rw (good_checks g.0, own),
   )

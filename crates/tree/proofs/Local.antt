@@ -1,9 +1,9 @@
 -- A value is its own length of bytes: what follows it changes nothing, refusals further in included. And over a dictionary that passes, bytes
 -- added to the dictionary change nothing. Assumes nothing.
 use Rattle.rules.proofs.Prelude.{◌≡◌, refl, sym, ap, ◌∙◌, List, ◌++◌, ℕ, zero, suc, ◌-◌, ◌≤◌, ◌<◌, arith, length, length-append, Found, pass, stop}
+use Rattle.std.specs.Prelude.{Ok}
 use Rattle.dictionary.specs.Limits.{limit}
 use Rattle.dictionary.specs.Dictionary as dictionary
-use Rattle.lengths.specs.declared.Length.TheVariants.{Known}
 use Rattle.lengths.specs.Lengths.{own_length, bytes_of}
 use Rattle.lengths.proofs.Appended.{appended}
 use Rattle.layer.specs.Object as object
@@ -15,7 +15,7 @@ use Rattle.nodes.proofs.Local as nodes
 use Rattle.marked.proofs.Settled.{by_dictionary, by_tree}
 
 -- BYTES AFTER THE VALUE
-module _ (d v u : List ℕ) (n : ℕ) (own : own_length v ≡ Known n) (limited : length (v ++ u) ≤ limit) where
+module _ (d v u : List ℕ) (n : ℕ) (own : own_length v ≡ Ok n) (limited : length (v ++ u) ≤ limit) where
   checks_local : (depth : ℕ) → checks_at depth d (v ++ u) ≡ checks_at depth d v
   checks_local depth = go (dictionary.checks d) refl
     where

@@ -1,17 +1,10 @@
 -- `leaf::check` meets its contract: its own length, and then its text. Assumes nothing.
 use Rattle.rules.proofs.Prelude.{sym}
-use Rattle.leaf.specs.Meaning.Refusal.{header_cut, past_range, past_bytes, no_such_type}
-use Rattle.leaf.proofs.Means.{is_due}
+use Rattle.std.proofs.lemmas.Result.{err_from_is_err_and}
+use Rattle.leaf.proofs.Laws.{no_length}
 use Rattle.leaf.proofs.check.Goals as goal
 
-pub returns-in-Cut : goal.returns-in-Cut
-returns-in-Cut c = is_due _ (header_cut (sym c.in-Cut.ensures))
-
-pub returns-in-Sum : goal.returns-in-Sum
-returns-in-Sum c = is_due _ (past_range (sym c.in-Sum.ensures))
-
-pub returns-in-Unknown : goal.returns-in-Unknown
-returns-in-Unknown c = is_due _ (no_such_type (sym c.in-Unknown.ensures))
-
-pub returns-in-Longer : goal.returns-in-Longer
-returns-in-Longer c = is_due _ (past_bytes (sym c.in-Longer.ensures))
+pub returns-in_err-n : goal.returns-in_err-n
+returns-in_err-n c =
+    let told = err_from_is_err_and c.from_residual.result c.from_residual.ensures.1 in
+    rw (told.1, told.2) (no_length _ _ (sym c.in_err-n.ensures))
