@@ -24,11 +24,8 @@ fn wrongs(s: &[u8], from: usize, count: usize) -> bool
     ensures { result ≡ false → Rights s.now (from + 3) (from + 3 + count) }
 {
     let mut any = false;
-    let mut k = 0;
-    while k < count {
-        let at = from + k;
+    for at in from..from + count {
         any = any | wrong(s[at], s[at + 1], s[at + 2], s[at + 3]);
-        k += 1;
     }
     any
 }
@@ -41,8 +38,7 @@ pub fn passes(s: &[u8], from: usize, count: usize, most: u8) -> bool
     if most < 0x80 {
         return true;
     }
-    let any = wrongs(s, from, count);
-    !any
+    !wrongs(s, from, count)
 }
 
 // The same of the first three bytes, which have fewer before them.

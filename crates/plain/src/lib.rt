@@ -7,23 +7,14 @@ ghost use Rattle.plain.specs.Steps.{Reached, AtMost};
 // A text that has no block is passed in strides of so many, as long as they are plain.
 const STRIDE: usize = 8;
 
-// The larger of two bytes.
-pub fn larger(a: u8, b: u8) -> u8
-    ensures { (a ≤ result) × (b ≤ result) }
-{
-    if a < b { b } else { a }
-}
-
 // The largest of the `count` bytes at `from`. All are read before one is judged, so that the compiler can take many in one step.
 pub fn largest(s: &[u8], from: usize, count: usize) -> u8
     requires { from + count ≤ length s.now }
     ensures { AtMost s.now from (from + count) result }
 {
-    let mut most = 0;
-    let mut k = 0;
-    while k < count {
-        most = larger(most, s[from + k]);
-        k += 1;
+    let mut most: u8 = 0;
+    for k in 0..count {
+        most = most.max(s[from + k]);
     }
     most
 }

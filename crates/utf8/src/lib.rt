@@ -49,7 +49,7 @@ fn right_up_to(s: &[u8], count: usize) -> usize
     let mut at = 0;
     while 3 + count <= s.len() - at {
         let most = plain::largest(s, at + 3, count);
-        if !blocks::passes(s, at, count, plain::larger(before, most)) {
+        if !blocks::passes(s, at, count, before.max(most)) {
             return at + 3;
         }
         before = most;

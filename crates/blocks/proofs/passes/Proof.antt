@@ -13,4 +13,4 @@ passes_spec =
     (λ c. λ e. let k = c in let a = k.args in
     rights_plain a.s.now a.from a.count a.most k.requires.1 (omega arith))  -- returns
     (λ c κs. search rules)
-    (λ c. λ e. c.wrongs-any.ensures (not-true c.wrongs-any.result e)))  -- returns-2
+    (λ c. λ e. c.wrongs.ensures (not-true c.wrongs.result e)))  -- returns-2

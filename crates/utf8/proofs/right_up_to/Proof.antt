@@ -28,7 +28,7 @@ right_up_to_spec =
     (λ c. omega arith) (λ c. omega arith) (λ c. omega arith) (λ c κs. omega arith) (λ c κs. tt)
     (λ c κs. let h = c in let s = h.args.s.now in let l = h.loop-at in (
       omega arith,
-      join (λ k. get_or s k 0 ≤ c.larger.result) l.at (l.at + 3) (λ k u v. omega (arith, l.invariant.2 k u v)) (l.at + 3) _
+      join (λ k. get_or s k 0 ≤ c.max.result) l.at (l.at + 3) (λ k u v. omega (arith, l.invariant.2 k u v)) (l.at + 3) _
           (λ k u v. omega (arith, c.largest-most.ensures k u v)) (omega arith),
     ))  -- passes-requires
     (λ c. omega arith)
