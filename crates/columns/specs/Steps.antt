@@ -1,19 +1,19 @@
 -- What the steps of the checks by numbers answer each other. Assumes nothing.
-use Rattle.std.specs.Prelude.{ℕ, ◌≤◌, ◌<◌}
-use Rattle.rules.specs.Rules.{Found}
+use Rattle.std.specs.Prelude.{[], ◌∷◌, ℕ, List, Result, Ok, Err, ⊤}
+use Rattle.rules.specs.Rules.{Found, Rule}
 use Rattle.rules.specs.Rules.Found.{pass}
+use Rattle.rules.specs.Rules.Rule.{◌⇒◌at◌}
+use Rattle.rules.specs.Rules.Test.{◌<?◌, ◌≤?◌, ◌and◌}
+use Rattle.layer.specs.declared.Refusal.{Refusal}
 use Rattle.layer.specs.Steps.{stop_of}
-use Rattle.columns.specs.declared.Outcome.{Outcome}
-use Rattle.columns.specs.declared.Outcome.TheVariants as outcome
-use Rattle.columns.specs.declared.Judged.{Judged}
-use Rattle.columns.specs.declared.Judged.TheVariants as judged
 
-abbrev pub found_of : Outcome → Found
-found_of (outcome.Refused r) = stop_of r
-found_of outcome.Pass = pass
+abbrev pub found_of : Result ⊤ Refusal → Found
+found_of (Err r) = stop_of r
+found_of (Ok _) = pass
 
--- what the id of field k says, over n entries and after the id `before`
-abbrev pub IdSays : ℕ → ℕ → ℕ → ℕ → Judged → Type 0
-IdSays n k before id judged.NoSuchEntry = n ≤ id
-IdSays n k before id judged.NotAbove = (id < n) × (0 < k) × (id ≤ before)
-IdSays n k before id judged.Good = (id < n) × (0 < k → before < id)
+-- the rules of the id of field k, over n entries and after the id `before`
+abbrev pub id_row : ℕ → ℕ → ℕ → ℕ → List Rule
+id_row n k before id =
+    (n ≤? id ⇒ 25 at k)
+    ∷ (0 <? k and id ≤? before ⇒ 26 at k)
+    ∷ []

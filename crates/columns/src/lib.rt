@@ -6,66 +6,38 @@ ghost use Rattle.rules.specs.Rules.{first, each, Says};
 ghost use Rattle.rules.specs.Rules.Test.{◌≤?◌};
 ghost use Rattle.layer.specs.Object.{count as count_of, id_rules, offset_rules};
 ghost use Rattle.layer.specs.Steps.{LayerOf};
-ghost use Rattle.columns.specs.Steps.{found_of, IdSays};
+ghost use Rattle.columns.specs.Steps.{found_of, id_row};
 
 use layer::{Layer, Refusal, id_at, offset_at};
 
-// A check that answers nothing but its refusal.
-#[derive(Drop)]
-pub enum Outcome {
-    Refused(Refusal),
-    Pass,
-}
-
-// What checks 25 and 26 come to for one id.
-#[derive(Drop)]
-enum Judged {
-    NoSuchEntry,
-    NotAbove,
-    Good,
-}
-
-// The id of field k, where `before` is that of the field before it.
-fn judge_id(entries: usize, k: usize, before: usize, id: usize) -> Judged
-    ensures { IdSays entries k before id result }
+// Checks 25 and 26 of the id of field k, where `before` is that of the field before it.
+fn judge_id(entries: usize, k: usize, before: usize, id: usize) -> Result<(), Refusal>
+    ensures { found_of result ≡ first (id_row entries k before id) }
 {
     if entries <= id {
-        return Judged::NoSuchEntry;
+        return Err(Refusal::NoSuchEntry(k));
     }
     if k == 0 {
-        return Judged::Good;
+        return Ok(());
     }
     if before < id {
-        return Judged::Good;
+        return Ok(());
     }
-    Judged::NotAbove
+    Err(Refusal::NotAbove(k))
 }
 
 // Checks 25 and 26 by ids, field by field: right over a sorted dictionary.
-pub fn check_ids(object: &[u8], l: Layer, entries: usize) -> Outcome
+pub fn check_ids(object: &[u8], l: Layer, entries: usize) -> Result<(), Refusal>
     requires { LayerOf object.now l }
     ensures { found_of result ≡ first (each (id_rules entries object.now) (count_of object.now)) }
 {
-    let count = l.count;
     let mut before = 0;
-    let mut k = 0;
-    while k < count {
+    for k in 0..l.count {
         let id = id_at(object, l, k);
-        let judged = judge_id(entries, k, before, id);
-        match judged {
-            Judged::NoSuchEntry => {
-                return Outcome::Refused(Refusal::NoSuchEntry(k));
-            }
-            Judged::NotAbove => {
-                return Outcome::Refused(Refusal::NotAbove(k));
-            }
-            Judged::Good => {
-                before = id;
-                k += 1;
-            }
-        }
+        judge_id(entries, k, before, id)?;
+        before = id;
     }
-    Outcome::Pass
+    Ok(())
 }
 
 // Whether a child has no bytes that starts at `offset` of a region of `length` bytes.
@@ -79,22 +51,19 @@ fn is_empty(length: usize, offset: usize) -> bool
 }
 
 // Checks 27 and 28, field by field. Which of the two it is, is asked only where one of them is due.
-pub fn check_offsets(object: &[u8], l: Layer) -> Outcome
+pub fn check_offsets(object: &[u8], l: Layer) -> Result<(), Refusal>
     requires { LayerOf object.now l }
     ensures { found_of result ≡ first (each (offset_rules object.now) (count_of object.now)) }
 {
-    let count = l.count;
     let length = l.end - l.start;
-    let mut k = 0;
-    while k < count {
+    for k in 0..l.count {
         let offset = offset_at(object, l, k);
         if is_empty(length, offset) {
             if length < offset {
-                return Outcome::Refused(Refusal::Offset(k));
+                return Err(Refusal::Offset(k));
             }
-            return Outcome::Refused(Refusal::EmptyChild(k));
+            return Err(Refusal::EmptyChild(k));
         }
-        k += 1;
     }
-    Outcome::Pass
+    Ok(())
 }

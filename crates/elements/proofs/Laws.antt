@@ -3,7 +3,7 @@ use Rattle.rules.proofs.Prelude.{◌≡◌, sym, ◌∙◌, List, [], ◌∷◌,
 use Rattle.rules.proofs.Prelude.{stops, goes, first_pass, refused, answered, lt-ltb, le-ltb}
 use Rattle.layout.specs.declared.Widths.{Widths}
 use Rattle.layout.specs.Layout.{count, child_start}
-use Rattle.list.specs.declared.Span.{Span}
+use Rattle.part.specs.declared.Span.{Span}
 use Rattle.list.specs.List as list
 use Rattle.list.specs.Steps.{ElementOf}
 use Rattle.elements.specs.Element.{head_rules, checks, element}

@@ -1,11 +1,11 @@
 -- The call's promise fixes its whole answer: two answers that meet it are equal. An answer is read back out of its numbers, so no two cases
 -- have the same. Assumes nothing.
 use Rattle.rules.proofs.Prelude.{◌≡◌, refl, sym, ap, ◌∙◌, cond, eqb, List, [], ◌∷◌, ℕ, Answer, gives}
+use Rattle.std.specs.Prelude.{Option, Some, None, Result, Ok, Err}
+use Rattle.part.specs.declared.Span.{Span}
 use Rattle.list.proofs.Pinned as list
 use Rattle.elements.specs.declared.Refusal.{Refusal}
 use Rattle.elements.specs.declared.Refusal.TheVariants.{TooLong, Empty, BasicType, List as OfList}
-use Rattle.elements.specs.declared.Element.{Element}
-use Rattle.elements.specs.declared.Element.TheVariants as element
 use Rattle.elements.specs.Answers.{refusal_number, refusal_place, element_numbers}
 use Rattle.elements.specs.Promises.{GetPromise}
 
@@ -22,18 +22,18 @@ refusal_back is other BasicType = refl
 refusal_back is other (OfList r) = list.refusal_back (λ q. is (OfList q)) _ r
 
 -- ANSWERS
-element_back : Answer → Element
-element_back (gives c (n ∷ i ∷ a ∷ e ∷ x) p) = element.Found a e
-element_back (gives c (n ∷ i ∷ a ∷ []) p) = element.Absent
-element_back (gives c (n ∷ i ∷ []) p) = element.Absent
-element_back (gives c (n ∷ []) p) = element.Absent
-element_back (gives c [] p) = refusal_by element.Refused element.Absent c p
+element_back : Answer → Result (Option Span) Refusal
+element_back (gives c (n ∷ i ∷ a ∷ e ∷ x) p) = Ok (Some (record { start = a; end = e }))
+element_back (gives c (n ∷ i ∷ a ∷ []) p) = Ok None
+element_back (gives c (n ∷ i ∷ []) p) = Ok None
+element_back (gives c (n ∷ []) p) = Ok None
+element_back (gives c [] p) = refusal_by Err (Ok None) c p
 
-element_back_law : (n : ℕ) (r : Element) → element_back (element_numbers n r) ≡ r
+element_back_law : (n : ℕ) (r : Result (Option Span) Refusal) → element_back (element_numbers n r) ≡ r
 unfolding element_back refusal_by list.refusal_by
-element_back_law n (element.Refused r) = refusal_back element.Refused element.Absent r
-element_back_law n element.Absent = refl
-element_back_law n (element.Found a e) = refl
+element_back_law n (Err r) = refusal_back Err (Ok None) r
+element_back_law n (Ok None) = refl
+element_back_law n (Ok (Some p)) = refl
 
-pub get_pinned : (v : List ℕ) (n : ℕ) (r q : Element) → GetPromise v n r → GetPromise v n q → r ≡ q
+pub get_pinned : (v : List ℕ) (n : ℕ) (r q : Result (Option Span) Refusal) → GetPromise v n r → GetPromise v n q → r ≡ q
 get_pinned v n r q a b = sym (element_back_law n r) ∙ ap element_back (a ∙ sym b) ∙ element_back_law n q

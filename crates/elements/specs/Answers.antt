@@ -1,12 +1,11 @@
 -- Documents 01 and 02's number, values and place for each case of the answer to one index. Assumes nothing.
-use Rattle.std.specs.Prelude.{[], ◌∷◌, ℕ}
+use Rattle.std.specs.Prelude.{[], ◌∷◌, ℕ, Option, Some, None, Result, Ok, Err}
 use Rattle.rules.specs.Rules.{Answer, accept, refuse}
 use Rattle.rules.specs.Rules.Answer.{gives}
+use Rattle.part.specs.declared.Span.{Span}
 use Rattle.list.specs.Answers as list
 use Rattle.elements.specs.declared.Refusal.{Refusal}
 use Rattle.elements.specs.declared.Refusal.TheVariants.{TooLong, Empty, BasicType, List}
-use Rattle.elements.specs.declared.Element.{Element}
-use Rattle.elements.specs.declared.Element.TheVariants as element
 
 abbrev pub refusal_number : Refusal → ℕ
 refusal_number TooLong = 20
@@ -23,7 +22,7 @@ refusal_place (List r) = list.refusal_place r
 abbrev pub refused : Refusal → Answer
 refused r = refuse (refusal_number r) (refusal_place r)
 
-abbrev pub element_numbers : ℕ → Element → Answer
-element_numbers n (element.Refused r) = refused r
-element_numbers n element.Absent = gives 1 [] 0
-element_numbers n (element.Found a e) = accept (n ∷ 0 ∷ a ∷ e ∷ [])
+abbrev pub element_numbers : ℕ → Result (Option Span) Refusal → Answer
+element_numbers n (Err r) = refused r
+element_numbers n (Ok None) = gives 1 [] 0
+element_numbers n (Ok (Some p)) = accept (n ∷ 0 ∷ p.start ∷ p.end ∷ [])

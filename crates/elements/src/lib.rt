@@ -5,9 +5,10 @@ ghost use Rattle.layout.specs.Steps.{Few};
 ghost use Rattle.elements.specs.Promises.{GetPromise, Lead};
 
 use encoding::Header;
+use part::Span;
 
 // One case for each of the refusals 20 to 22, and the list's own.
-#[derive(Drop)]
+#[derive(Clone, Copy)]
 pub enum Refusal {
     TooLong,
     Empty,
@@ -15,49 +16,45 @@ pub enum Refusal {
     List(list::Refusal),
 }
 
-#[derive(Drop)]
-pub enum Element {
-    Refused(Refusal),
-    Absent,
-    Found { start: usize, end: usize },
+impl From<list::Refusal> for Refusal {
+    ghost use Rattle.std.specs.Prelude.{◌≡◌};
+    ghost use Rattle.elements.specs.declared.Refusal.TheVariants.{List as OfList};
+
+    ghost from_gives = { λ refusal r. r ≡ OfList refusal };
+
+    fn from(refusal: list::Refusal) -> Refusal {
+        Refusal::List(refusal)
+    }
 }
 
 // The list's own checks, and where the element stands.
-fn get_in(list: &[u8], w: layout::Widths, index: usize) -> Element
+fn get_in(list: &[u8], w: layout::Widths, index: usize) -> Result<Option<Span>, Refusal>
     requires { Few w × Lead list.now w }
     ensures { GetPromise list.now index result }
 {
-    let head = list::check(list, w);
-    match head {
-        list::Head::Refused(r) => Element::Refused(Refusal::List(r)),
-        list::Head::Good(l) => {
-            if index < l.count {
-                let span = list::element(list, w, l, index);
-                return Element::Found {
-                    start: span.start,
-                    end: span.end,
-                };
-            }
-            Element::Absent
-        }
+    let l = list::check(list, w)?;
+    if index < l.count {
+        let span = list::element(list, w, l, index);
+        return Ok(Some(span));
     }
+    Ok(None)
 }
 
-// The element of that index.
-pub fn get(list: &[u8], index: usize) -> Element
+// The element of that index: where it stands, or nothing where the list has no more than `index` elements.
+pub fn get(list: &[u8], index: usize) -> Result<Option<Span>, Refusal>
     ensures { GetPromise list.now index result }
 {
     if dictionary::LIMIT < list.len() {
-        return Element::Refused(Refusal::TooLong);
+        return Err(Refusal::TooLong);
     }
     if list.len() < 1 {
-        return Element::Refused(Refusal::Empty);
+        return Err(Refusal::Empty);
     }
     let header = encoding::header_of(list[0]);
     match header {
         Header::List(w) => get_in(list, w, index),
-        Header::Primitive(_) => Element::Refused(Refusal::BasicType),
-        Header::ShortString(_) => Element::Refused(Refusal::BasicType),
-        Header::Object(_) => Element::Refused(Refusal::BasicType),
+        Header::Primitive(_) => Err(Refusal::BasicType),
+        Header::ShortString(_) => Err(Refusal::BasicType),
+        Header::Object(_) => Err(Refusal::BasicType),
     }
 }

@@ -6,7 +6,7 @@ use Rattle.rules.proofs.Laws.{first_append}
 use Rattle.dictionary.specs.Limits.{limit}
 use Rattle.layout.specs.declared.Widths.{Widths}
 use Rattle.layout.specs.Layout as layout
-use Rattle.lengths.specs.declared.Length.TheVariants.{Known}
+use Rattle.std.specs.Prelude.{Ok}
 use Rattle.encoding.specs.declared.Header.TheVariants as header
 use Rattle.encoding.specs.Encoding.{count_width as width_of, object_widths}
 use Rattle.lengths.specs.Lengths.{bytes_by, own_length}
@@ -69,7 +69,7 @@ module _ (o : List ℕ) where
         ap first rows_are ∙ first_append before (layout.rules 23 24 23 widths o) ∙ goes _ (first_pass before (not_long & not_empty & is_two & tt))
 
   -- THE OWN LENGTH of an accepted layer is its trimmed end
-  pub own_length_law : (d : List ℕ) (n v e : ℕ) → Layer d o n v e → own_length o ≡ Known e
+  pub own_length_law : (d : List ℕ) (n v e : ℕ) → Layer d o n v e → own_length o ≡ Ok e
   unfolding basic_type bytes_by
   own_length_law d n v e l =
       let placed = l.named.headed.placed in
@@ -80,4 +80,4 @@ module _ (o : List ℕ) where
       let f = end_is in
       let counted : Counted widths o = record { count_there = omega arith; offsets_fit = omega arith; start_fits = omega arith; offsets_there = omega arith } in
       let encoded : Encoded (header.Object widths) o e = record { headed = counted; bytes = omega arith; fits = omega arith; there = omega arith } in
-      (exactly_when o (Known e)).1 (measured typed.sized.not_empty (rw (← is_object (get_or o 0 0) typed.is_object) encoded))
+      (exactly_when o (Ok e)).1 (measured typed.sized.not_empty (rw (← is_object (get_or o 0 0) typed.is_object) encoded))

@@ -2,6 +2,8 @@
 use Rattle.std.specs.Prelude.{ℕ}
 use Rattle.rules.specs.Rules.{Answer, refuse}
 use Rattle.dictionary.specs.Answers as dictionary
+use Rattle.layout.specs.declared.Flaw.{Flaw}
+use Rattle.layout.specs.declared.Flaw.TheVariants as flaw
 use Rattle.layer.specs.declared.Refusal.{Refusal}
 use Rattle.layer.specs.declared.Refusal.TheVariants.{Dictionary, TooLong, Empty, BasicType, Short, Sum, NoSuchEntry, NotAbove, Offset, EmptyChild}
 
@@ -29,6 +31,12 @@ refusal_place (NoSuchEntry k) = k
 refusal_place (NotAbove k) = k
 refusal_place (Offset k) = k
 refusal_place (EmptyChild k) = k
+
+-- a layout's flaw is a refusal of the layer
+abbrev pub of_layout : Flaw → Refusal
+of_layout flaw.Cut = Short
+of_layout flaw.Sum = Sum
+of_layout flaw.Longer = Short
 
 abbrev pub refused : Refusal → Answer
 refused r = refuse (refusal_number r) (refusal_place r)

@@ -1,5 +1,5 @@
 -- What the steps of the header's check answer each other, in the words of Object.antt. Assumes nothing.
-use Rattle.std.specs.Prelude.{◌≡◌, List, ℕ, ◌≤◌, length, get_or}
+use Rattle.std.specs.Prelude.{◌≡◌, List, ℕ, ◌≤◌, length, get_or, Result, Ok, Err}
 use Rattle.rules.specs.Rules.{Found, first, Passed}
 use Rattle.rules.specs.Rules.Found.{stop}
 use Rattle.dictionary.specs.Limits.{limit}
@@ -8,8 +8,6 @@ use Rattle.layout.specs.Steps.{Few}
 use Rattle.encoding.specs.Encoding.{object_widths}
 use Rattle.layer.specs.declared.Refusal.{Refusal}
 use Rattle.layer.specs.declared.Layer.{Layer}
-use Rattle.layer.specs.declared.Head.{Head}
-use Rattle.layer.specs.declared.Head.TheVariants as head
 use Rattle.layer.specs.Object.{basic_type, offset_width, id_width, count, ids_start, offsets_start, start, end, head_rules}
 use Rattle.layer.specs.Answers.{refusal_number, refusal_place}
 
@@ -40,6 +38,6 @@ pub record LayerOf (o : List ℕ) (l : Layer) : Type 0 where
   pub end_is : l.end ≡ end o
   pub rises : l.start ≤ l.end
 
-abbrev pub HeadOf : List ℕ → Head → Type 0
-HeadOf o (head.Refused r) = first (head_rules o) ≡ stop_of r
-HeadOf o (head.Good l) = LayerOf o l
+abbrev pub HeadOf : List ℕ → Result Layer Refusal → Type 0
+HeadOf o (Err r) = first (head_rules o) ≡ stop_of r
+HeadOf o (Ok l) = LayerOf o l

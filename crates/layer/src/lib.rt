@@ -23,6 +23,32 @@ pub enum Refusal {
     EmptyChild(usize),
 }
 
+impl From<dictionary::Refusal> for Refusal {
+    ghost use Rattle.std.specs.Prelude.{◌≡◌};
+    ghost use Rattle.layer.specs.declared.Refusal.TheVariants.{Dictionary};
+
+    ghost from_gives = { λ refusal r. r ≡ Dictionary refusal };
+
+    fn from(refusal: dictionary::Refusal) -> Refusal {
+        Refusal::Dictionary(refusal)
+    }
+}
+
+impl From<layout::Flaw> for Refusal {
+    ghost use Rattle.std.specs.Prelude.{◌≡◌};
+    ghost use Rattle.layer.specs.Answers.{of_layout};
+
+    ghost from_gives = { λ flaw r. r ≡ of_layout flaw };
+
+    fn from(flaw: layout::Flaw) -> Refusal {
+        match flaw {
+            layout::Flaw::Cut => Refusal::Short,
+            layout::Flaw::Sum => Refusal::Sum,
+            layout::Flaw::Longer => Refusal::Short,
+        }
+    }
+}
+
 // The numbers that the first bytes hold, handed on by value so that nothing is parsed twice.
 #[derive(Clone, Copy)]
 pub struct Layer {
@@ -35,51 +61,39 @@ pub struct Layer {
     pub end: usize,
 }
 
-// What a check comes to that hands the layer's numbers on.
-#[derive(Drop)]
-pub enum Head {
-    Refused(Refusal),
-    Good(Layer),
-}
-
 // Checks 23 and 24, those of the layout, and the numbers where they pass.
-fn read_layout(object: &[u8], w: Widths) -> Head
+fn read_layout(object: &[u8], w: Widths) -> Result<Layer, Refusal>
     requires { LeadOf object.now w }
     ensures { HeadOf object.now result }
 {
-    let head = layout::read(object, w);
-    match head {
-        layout::Head::Cut => Head::Refused(Refusal::Short),
-        layout::Head::Sum => Head::Refused(Refusal::Sum),
-        layout::Head::Longer => Head::Refused(Refusal::Short),
-        layout::Head::Good(n) => Head::Good(Layer {
-            id_width: w.id,
-            offset_width: w.offset,
-            count: n.count,
-            ids: 1 + w.count,
-            offsets: n.offsets,
-            start: n.start,
-            end: n.end,
-        }),
-    }
+    let n = layout::read(object, w)?;
+    Ok(Layer {
+        id_width: w.id,
+        offset_width: w.offset,
+        count: n.count,
+        ids: 1 + w.count,
+        offsets: n.offsets,
+        start: n.start,
+        end: n.end,
+    })
 }
 
 // Checks 20 to 24, and the numbers where they pass.
-pub fn read_header(object: &[u8]) -> Head
+pub fn read_header(object: &[u8]) -> Result<Layer, Refusal>
     ensures { HeadOf object.now result }
 {
     if dictionary::LIMIT < object.len() {
-        return Head::Refused(Refusal::TooLong);
+        return Err(Refusal::TooLong);
     }
     if object.len() < 1 {
-        return Head::Refused(Refusal::Empty);
+        return Err(Refusal::Empty);
     }
     let header = encoding::header_of(object[0]);
     match header {
         Header::Object(w) => read_layout(object, w),
-        Header::Primitive(_) => Head::Refused(Refusal::BasicType),
-        Header::ShortString(_) => Head::Refused(Refusal::BasicType),
-        Header::List(_) => Head::Refused(Refusal::BasicType),
+        Header::Primitive(_) => Err(Refusal::BasicType),
+        Header::ShortString(_) => Err(Refusal::BasicType),
+        Header::List(_) => Err(Refusal::BasicType),
     }
 }
 

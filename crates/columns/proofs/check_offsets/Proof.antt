@@ -6,10 +6,10 @@ use Rattle.columns.proofs.check_offsets.Statement.{statement}
 use Rattle.columns.proofs.check_offsets.Tie as tie
 
 abbrev invariant_loop : tie.invariant-loop-k
-invariant_loop object l count length k₀ k = (k ≤ count) × (first (each (offset_rules object) k) ≡ pass)
+invariant_loop object l length k₀ k_end k = (k ≤ k_end) × (first (each (offset_rules object) k) ≡ pass)
 
 abbrev decreases_loop : tie.decreases-loop-k
-decreases_loop object l count length k₀ k = count - k
+decreases_loop object l length k₀ k_end k = k_end - k
 
 pub check_offsets_spec : {M : Type 1} → statement M
 unfolding offset_rules

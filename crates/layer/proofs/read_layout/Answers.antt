@@ -1,18 +1,27 @@
 -- `layer::read_layout` meets its contract: the layout's table is the object's after 22, and its numbers are the object's. Assumes nothing.
-use Rattle.rules.proofs.Prelude.{◌≡◌, ◌∙◌, List, ℕ, ◌+◌, arith, rules as needs, first, stop}
+use Rattle.rules.proofs.Prelude.{◌≡◌, ◌∙◌, List, ℕ, ◌+◌, arith, first, stop}
+use Rattle.std.specs.Prelude.{Err}
+use Rattle.layout.specs.declared.Flaw.{Flaw}
+use Rattle.layout.specs.declared.Flaw.TheVariants as flaw
 use Rattle.layout.specs.declared.Widths.{Widths}
 use Rattle.layout.specs.declared.Numbers.{Numbers}
 use Rattle.layout.specs.Layout.{rules}
-use Rattle.layout.specs.Steps.{NumbersOf}
+use Rattle.layout.specs.Steps.{NumbersOf, HeadOf}
+use Rattle.layout.proofs.Results.{raised}
 use Rattle.layer.specs.Object.{head_rules}
-use Rattle.layer.specs.Steps.{LeadOf, LayerOf}
+use Rattle.layer.specs.Answers.{of_layout}
+use Rattle.layer.specs.Steps.{stop_of, LeadOf, LayerOf}
 use Rattle.layer.proofs.Alike as alike
-use Rattle.layer.proofs.read_layout.Statement.{statement}
-use Rattle.layer.proofs.read_layout.Tie as tie
+use Rattle.layer.proofs.read_layout.Goals as goal
 
 module _ (o : List ℕ) (w : Widths) (lead : LeadOf o w) where
   stopped : {c : ℕ} → first (rules 23 24 23 w o) ≡ stop c 0 → first (head_rules o) ≡ stop c 0
   stopped e = alike.then_laid o lead.not_long lead.not_empty lead.is_object ∙ (rw lead.widths_are at e)
+
+  flawed : (f : Flaw) → HeadOf o w (Err f) → first (head_rules o) ≡ stop_of (of_layout f)
+  flawed flaw.Cut h = stopped (h 23 24 23)
+  flawed flaw.Sum h = stopped (h 23 24 23)
+  flawed flaw.Longer h = stopped (h 23 24 23)
 
   layer : (n : Numbers) → NumbersOf o w n
       → LayerOf o (record { id_width = w.id; offset_width = w.offset; count = n.count; ids = 1 + w.count; offsets = n.offsets; start = n.start; end = n.end })
@@ -36,13 +45,8 @@ module _ (o : List ℕ) (w : Widths) (lead : LeadOf o w) where
         rises = is.rises;
       }
 
-pub read_layout_spec : {M : Type 1} → statement M
-read_layout_spec =
-    tie.close
-    (tie.spec
-    (λ c κs. search needs) (λ c. search needs) (λ c. search needs) (λ c. search needs) (λ c. search needs)
-    (λ c. search needs)  -- add-t9
-    (λ c. let h = rw c.in-Cut.is at c.read-head.ensures in stopped _ _ c.requires (h 23 24 23))  -- returns
-    (λ c. let h = rw c.in-Sum.is at c.read-head.ensures in stopped _ _ c.requires (h 23 24 23))  -- returns-2
-    (λ c. let h = rw c.in-Longer.is at c.read-head.ensures in stopped _ _ c.requires (h 23 24 23))  -- returns-3
-    (λ c. layer _ _ c.requires _ (rw c.in-Good.is at c.read-head.ensures)))  -- returns-4
+pub returns-in_err-n : goal.returns-in_err-n
+returns-in_err-n c = rw (raised _ c.from_residual.ensures.1) (flawed _ _ c.requires _ c.in_err-n.ensures)
+
+pub returns : goal.returns
+returns c = layer _ _ c.requires _ c.in_ok-n.ensures
