@@ -15,7 +15,8 @@ use Rattle.steps.specs.Path.Parsed.{refused, steps}
 use Rattle.writing.specs.Steps.{Room, steps_in}
 use Rattle.writing.proofs.Laws.{names_length, words_length}
 use Rattle.parsing.specs.declared.Refusal.{Refusal}
-use Rattle.parsing.specs.declared.Reading.TheVariants as reading
+use Rattle.std.specs.Prelude.{Result, Ok, Err, IsErr, IsErrAnd}
+use Rattle.writing.specs.declared.Parsed as measured
 use Rattle.parsing.specs.Meaning.{Lacks}
 use Rattle.parsing.specs.Meaning.Lacks.{few_words, few_bytes, past_range}
 use Rattle.parsing.specs.Answers.{refusal_number}
@@ -147,13 +148,19 @@ module _ (s names words : List ℕ) where
       sets-eq (words_of 0 xs) words 0 h ∙ ap (λ (j : ℕ). words_of 0 xs ++ drop j words) k
 
 -- THE PROMISE: a refusal leaves both buffers; the steps are written
-pub kept_so : (s names words : List ℕ) (r : Refusal) → answer s names words ≡ refused (refusal_number r) → ParsePromise s names words (reading.Refused r) names words
+pub kept_so : (s names words : List ℕ) (r : Refusal) → answer s names words ≡ refused (refusal_number r) → ParsePromise s names words (Err r) names words
 kept_so s names words r e = record { says = rw e; names_left = rw e; words_left = rw e }
 
-pub written_so : (s names words names' words' : List ℕ) (count sum : ℕ) → Room s names words → of count sum ≡ sizes (parse 0 s)
+-- and so does a step's refusal that is passed on
+pub passed_so : (s names words : List ℕ) (r : Result measured.Parsed Refusal) (code : ℕ) → IsErr r × IsErrAnd r (λ e. refusal_number e ≡ code)
+    → answer s names words ≡ refused code → ParsePromise s names words r names words
+passed_so s names words (Ok m) code (h, k) e = absurd k
+passed_so s names words (Err r) code (h, k) e = kept_so s names words r (e ∙ ap refused (sym k))
+
+pub written_so : (s names words names' words' : List ℕ) (m : measured.Parsed) → Room s names words → of m.count m.total ≡ sizes (parse 0 s)
     → answer s names words ≡ steps (steps_in (parse 0 s)) → names' ≡ sets names 0 (names_of (steps_in (parse 0 s)))
-    → words' ≡ sets words 0 (words_of 0 (steps_in (parse 0 s))) → ParsePromise s names words (reading.Parsed count sum) names' words'
-written_so s names words names' words' count sum r f e p q =
-    let o = is_of (parse 0 s) count sum f in
-    let z : of count sum ≡ of (length (steps_in (parse 0 s))) (total (steps_in (parse 0 s))) = ap₂ of o.1 o.2 in
+    → words' ≡ sets words 0 (words_of 0 (steps_in (parse 0 s))) → ParsePromise s names words (Ok m) names' words'
+written_so s names words names' words' m r f e p q =
+    let o = is_of (parse 0 s) m.count m.total f in
+    let z : of m.count m.total ≡ of (length (steps_in (parse 0 s))) (total (steps_in (parse 0 s))) = ap₂ of o.1 o.2 in
     record { says = rw e z; names_left = rw e (p ∙ names_written s names words r); words_left = rw e (q ∙ words_written s names words r) }

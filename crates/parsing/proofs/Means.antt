@@ -12,7 +12,8 @@ use Rattle.writing.specs.Written.{total, sizes}
 use Rattle.writing.specs.Steps.{steps_in}
 use Rattle.parsing.specs.Parsing.{leading_dot, steps_of, lacking, room_for, answer}
 use Rattle.parsing.specs.declared.Refusal as declared
-use Rattle.parsing.specs.declared.Reading.TheVariants as reading
+use Rattle.std.specs.Prelude.{Ok, Err}
+use Rattle.writing.specs.declared.Parsed as measured
 use Rattle.parsing.specs.Answers.{refusal_number}
 use Rattle.parsing.specs.Promises.{ParsePromise}
 use Rattle.parsing.specs.ReadBack.{read_back, Laid}
@@ -98,15 +99,15 @@ pub record Read (path names words : List ℕ) (count sum : ℕ) (names' words' :
   pub back : read_back names' words' 0 count ≡ all
 
 module _ (path names words names' words' : List ℕ) where
-  pub refused_so : (r : declared.Refusal) → ParsePromise path names words (reading.Refused r) names' words'
+  pub refused_so : (r : declared.Refusal) → ParsePromise path names words (Err r) names' words'
       → Refusal path names words (refusal_number r) × (names' ≡ names) × (words' ≡ words)
   refused_so r h =
       let e = is_bad (answer path names words) (refusal_number r) h.says in
       ((refuses path names words (refusal_number r)).0 e, h.names_left ∙ rw e, h.words_left ∙ rw e)
 
-  pub parsed_so : (count sum : ℕ) → ParsePromise path names words (reading.Parsed count sum) names' words' → Read path names words count sum names' words'
-  parsed_so count sum h =
-      let (e, k, t) = is_of (answer path names words) count sum h.says in
+  pub parsed_so : (p : measured.Parsed) → ParsePromise path names words (Ok p) names' words' → Read path names words p.count p.total names' words'
+  parsed_so p h =
+      let (e, k, t) = is_of (answer path names words) p.count p.total h.says in
       let xs = steps_in (answer path names words) in
       record {
         all = xs;

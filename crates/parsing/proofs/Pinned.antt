@@ -5,8 +5,8 @@ use Rattle.writing.specs.Written.{Sizes}
 use Rattle.writing.specs.Written.Sizes.{bad, of}
 use Rattle.parsing.specs.declared.Refusal.{Refusal}
 use Rattle.parsing.specs.declared.Refusal.TheVariants.{NotUtf8, LeadingDot, TrailingDot, Unexpected, Unclosed, Bracket, NoRoom}
-use Rattle.parsing.specs.declared.Reading.{Reading}
-use Rattle.parsing.specs.declared.Reading.TheVariants as reading
+use Rattle.std.specs.Prelude.{Result, Ok, Err}
+use Rattle.writing.specs.declared.Parsed.{Parsed}
 use Rattle.parsing.specs.Answers.{refusal_number, parse_numbers}
 use Rattle.parsing.specs.Promises.{ParsePromise}
 
@@ -27,20 +27,20 @@ refusal_back is other Bracket = refl
 refusal_back is other NoRoom = refl
 
 -- ANSWERS
-reading_back : Sizes → Reading
-reading_back (bad c) = refusal_by reading.Refused (reading.Refused NoRoom) c
-reading_back (of count sum) = reading.Parsed count sum
+reading_back : Sizes → Result Parsed Refusal
+reading_back (bad c) = refusal_by Err (Err NoRoom) c
+reading_back (of count sum) = Ok (record { count = count; total = sum })
 
-reading_back_law : (r : Reading) → reading_back (parse_numbers r) ≡ r
+reading_back_law : (r : Result Parsed Refusal) → reading_back (parse_numbers r) ≡ r
 unfolding reading_back
-reading_back_law (reading.Refused r) = refusal_back reading.Refused _ r
-reading_back_law (reading.Parsed count sum) = refl
+reading_back_law (Err r) = refusal_back Err _ r
+reading_back_law (Ok p) = refl
 
-pub reading_injective : (r q : Reading) → parse_numbers r ≡ parse_numbers q → r ≡ q
+pub reading_injective : (r q : Result Parsed Refusal) → parse_numbers r ≡ parse_numbers q → r ≡ q
 reading_injective r q e = sym (reading_back_law r) ∙ ap reading_back e ∙ reading_back_law q
 
 -- THE THEOREM
-pub parse_pinned : (path names words : List ℕ) (r q : Reading) (names' names'' words' words'' : List ℕ)
+pub parse_pinned : (path names words : List ℕ) (r q : Result Parsed Refusal) (names' names'' words' words'' : List ℕ)
     → ParsePromise path names words r names' words' → ParsePromise path names words q names'' words'' → (r ≡ q) × (names' ≡ names'') × (words' ≡ words'')
 parse_pinned path names words r q names' names'' words' words'' a b =
     (reading_injective r q (a.says ∙ sym b.says), a.names_left ∙ sym b.names_left, a.words_left ∙ sym b.words_left)

@@ -1,12 +1,11 @@
 -- Document 02's number for each case of the refusals, and what the answer says: a refusal's number, or how many steps and the names' total.
 -- Assumes nothing.
-use Rattle.std.specs.Prelude.{ℕ}
+use Rattle.std.specs.Prelude.{ℕ, Result, Ok, Err}
 use Rattle.writing.specs.Written.{Sizes}
 use Rattle.writing.specs.Written.Sizes.{bad, of}
 use Rattle.parsing.specs.declared.Refusal.{Refusal}
 use Rattle.parsing.specs.declared.Refusal.TheVariants.{NotUtf8, LeadingDot, TrailingDot, Unexpected, Unclosed, Bracket, NoRoom}
-use Rattle.parsing.specs.declared.Reading.{Reading}
-use Rattle.parsing.specs.declared.Reading.TheVariants as reading
+use Rattle.writing.specs.declared.Parsed.{Parsed}
 
 abbrev pub refusal_number : Refusal → ℕ
 refusal_number NotUtf8 = 70
@@ -17,6 +16,6 @@ refusal_number Unclosed = 74
 refusal_number Bracket = 75
 refusal_number NoRoom = 76
 
-abbrev pub parse_numbers : Reading → Sizes
-parse_numbers (reading.Refused r) = bad (refusal_number r)
-parse_numbers (reading.Parsed count sum) = of count sum
+abbrev pub parse_numbers : Result Parsed Refusal → Sizes
+parse_numbers (Err r) = bad (refusal_number r)
+parse_numbers (Ok p) = of p.count p.total

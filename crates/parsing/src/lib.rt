@@ -7,33 +7,26 @@ ghost use Rattle.parsing.specs.Parsing.{leading_dot, lacking};
 ghost use Rattle.parsing.specs.Answers.{refusal_number};
 ghost use Rattle.parsing.specs.Promises.{ParsePromise};
 
-use writing::Measure;
+pub use writing::Parsed;
 
 // Whether a path starts with a dot.
+#[tactic(auto, unfolding(crate::specs::Parsing::leading_dot))]
 fn starts_with_dot(path: &[u8]) -> bool
     ensures { result ≡ leading_dot path.now }
 {
-    if path.len() == 0 {
-        return false;
-    }
-    path[0] == b'.'
+    matches!(path, [b'.', ..])
 }
 
 // Whether `total` bytes and three words for each of `count` steps have no room, or cannot be told in words.
+#[tactic(auto, unfolding(width::specs::Limits::u32_max))]
 fn no_room(names: usize, words: usize, count: usize, total: usize) -> bool
     ensures { result ≡ lacking names words count total }
 {
-    if words / 3 < count {
-        return true;
-    }
-    if names < total {
-        return true;
-    }
-    0xFFFF_FFFF < total
+    words / 3 < count || names < total || 0xFFFF_FFFF < total
 }
 
 // One case for each of the refusals 70 to 76.
-#[derive(Drop)]
+#[derive(Clone, Copy)]
 pub enum Refusal {
     NotUtf8,
     LeadingDot,
@@ -44,46 +37,34 @@ pub enum Refusal {
     NoRoom,
 }
 
-// How many steps, and how many bytes their names take.
-#[derive(Drop)]
-pub enum Reading {
-    Refused(Refusal),
-    Parsed { count: usize, total: usize },
-}
+// The refusals that a step can meet are among those of the whole call.
+impl From<steps::Refusal> for Refusal {
+    ghost from_gives = { λ step whole. refusal_number whole ≡ step_refusal step };
 
-// The refusals that a step can meet, among those of the whole call.
-fn among(r: steps::Refusal) -> Refusal
-    ensures { refusal_number result ≡ step_refusal r }
-{
-    match r {
-        steps::Refusal::TrailingDot => Refusal::TrailingDot,
-        steps::Refusal::Unexpected => Refusal::Unexpected,
-        steps::Refusal::Unclosed => Refusal::Unclosed,
-        steps::Refusal::Bracket => Refusal::Bracket,
+    fn from(refusal: steps::Refusal) -> Refusal {
+        match refusal {
+            steps::Refusal::TrailingDot => Refusal::TrailingDot,
+            steps::Refusal::Unexpected => Refusal::Unexpected,
+            steps::Refusal::Unclosed => Refusal::Unclosed,
+            steps::Refusal::Bracket => Refusal::Bracket,
+        }
     }
 }
 
 // The steps of a path, into lent bytes and words. All is measured before the first is written, since a refusal leaves both.
-pub fn parse(path: &[u8], names: &mut [u8], words: &mut [u32]) -> Reading
+pub fn parse(path: &[u8], names: &mut [u8], words: &mut [u32]) -> Result<Parsed, Refusal>
     ensures { ParsePromise path.now names.old words.old result names.new words.new }
 {
-    let text = texts::is_text(path, 0, path.len());
-    let dot = starts_with_dot(path);
-    if !text {
-        return Reading::Refused(Refusal::NotUtf8);
+    if !texts::is_text(path, 0, path.len()) {
+        return Err(Refusal::NotUtf8);
     }
-    if dot {
-        return Reading::Refused(Refusal::LeadingDot);
+    if starts_with_dot(path) {
+        return Err(Refusal::LeadingDot);
     }
-    let measure = writing::measure_steps(path);
-    match measure {
-        Measure::Wrong(r) => Reading::Refused(among(r)),
-        Measure::Good { count, total } => {
-            if no_room(names.len(), words.len(), count, total) {
-                return Reading::Refused(Refusal::NoRoom);
-            }
-            writing::write_steps(path, names, words);
-            Reading::Parsed { count, total }
-        }
+    let parsed = writing::measure_steps(path)?;
+    if no_room(names.len(), words.len(), parsed.count, parsed.total) {
+        return Err(Refusal::NoRoom);
     }
+    writing::write_steps(path, names, words);
+    Ok(parsed)
 }

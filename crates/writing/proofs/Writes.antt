@@ -14,7 +14,7 @@ use Rattle.steps.specs.Path.Parsed.{refused, steps}
 use Rattle.steps.proofs.Laws.{parse_end, parse_wrong, parse_step}
 use Rattle.writing.specs.Written.{text_of, weight, row_of, names_of, words_of, total}
 use Rattle.writing.specs.Steps.{TakesOf, Due, WroteOf, Room, steps_in}
-use Rattle.writing.specs.declared.Wrote.{Wrote}
+use Rattle.writing.specs.declared.Extent.{Extent}
 use Rattle.writing.proofs.Laws.{row_length}
 
 -- COPIES, byte by byte
@@ -105,7 +105,7 @@ module _ {s names₀ words₀ : List ℕ} {at used row : ℕ} {names words : Lis
         fits = omega (arith, r.fits, t);
       }
 
-  pub write_turn : {names' words' : List ℕ} {w : Wrote} → at < length s → WroteOf s at used row names words names' words' w
+  pub write_turn : {names' words' : List ℕ} {w : Extent} → at < length s → WroteOf s at used row names words names' words' w
       → Written s names₀ words₀ (at + (w.more + 1)) (used + w.len) (row + 3) names' words'
   unfolding names_of words_of total weight
   write_turn {w = w} h o =

@@ -1,5 +1,5 @@
 -- What the functions of the crate answer each other, in the words of Path.antt and Written.antt. Assumes nothing.
-use Rattle.std.specs.Prelude.{◌≡◌, List, [], ℕ, ◌+◌, ◌≤◌, length, drop, get_or}
+use Rattle.std.specs.Prelude.{◌≡◌, List, [], ℕ, ◌+◌, ◌≤◌, length, drop, get_or, Result, Ok, Err, IfOk}
 use Rattle.std.proofs.lemmas.List.Edits.{sets}
 use Rattle.width.specs.Limits.{u32_max}
 use Rattle.steps.specs.Path.{Step, Parsed, next, parse}
@@ -8,11 +8,9 @@ use Rattle.steps.specs.Path.Next.{wrong, takes}
 use Rattle.steps.specs.Path.Parsed.{refused, steps}
 use Rattle.steps.specs.Answers.{refusal_number}
 use Rattle.writing.specs.Written.Sizes.{bad, of}
+use Rattle.steps.specs.declared.Refusal.{Refusal}
 use Rattle.writing.specs.declared.Extent.{Extent}
-use Rattle.writing.specs.declared.Extent.TheVariants as extent
-use Rattle.writing.specs.declared.Wrote.{Wrote}
-use Rattle.writing.specs.declared.Measure.{Measure}
-use Rattle.writing.specs.declared.Measure.TheVariants as measure
+use Rattle.writing.specs.declared.Parsed as measured
 
 -- what the step that the byte at `at` starts takes: `len` bytes of the names, and `more` of the path after that byte
 pub record TakesOf (s : List ℕ) (at len more : ℕ) : Type 0 where
@@ -22,20 +20,16 @@ pub record TakesOf (s : List ℕ) (at len more : ℕ) : Type 0 where
   pub fewer : len ≤ more + 1
   pub inside : at + 1 + more ≤ length s
 
-abbrev pub ExtentOf : List ℕ → ℕ → Extent → Type 0
-ExtentOf s at (extent.Wrong r) = next (get_or s at 0) (drop (at + 1) s) ≡ wrong (refusal_number r)
-ExtentOf s at (extent.Takes len more) = TakesOf s at len more
+abbrev pub ExtentOf : List ℕ → ℕ → Result Extent Refusal → Type 0
+ExtentOf s at (Err r) = next (get_or s at 0) (drop (at + 1) s) ≡ wrong (refusal_number r)
+ExtentOf s at (Ok x) = TakesOf s at x.len x.more
 
-abbrev pub sizes_of : Measure → Sizes
-sizes_of (measure.Wrong r) = bad (refusal_number r)
-sizes_of (measure.Good count total) = of count total
+abbrev pub sizes_of : Result measured.Parsed Refusal → Sizes
+sizes_of (Err r) = bad (refusal_number r)
+sizes_of (Ok m) = of m.count m.total
 
-abbrev pub few : ℕ → Measure → Type 0
-few n (measure.Wrong r) = Unit {0}
-few n (measure.Good count total) = (count ≤ n) × (total ≤ n)
-
-abbrev pub MeasureOf : List ℕ → Measure → Type 0
-MeasureOf s r = (sizes_of r ≡ sizes (parse 0 s)) × few (length s) r
+abbrev pub MeasureOf : List ℕ → Result measured.Parsed Refusal → Type 0
+MeasureOf s r = (sizes_of r ≡ sizes (parse 0 s)) × IfOk r (λ m. (m.count ≤ length s) × (m.total ≤ length s))
 
 -- THE WRITER
 
@@ -49,7 +43,7 @@ pub record Due (s : List ℕ) (at used row : ℕ) (names words : List ℕ) : Typ
   pub fits : used + weight step ≤ u32_max
 
 -- it was written
-pub record WroteOf (s : List ℕ) (at used row : ℕ) (names words names' words' : List ℕ) (w : Wrote) : Type 0 where
+pub record WroteOf (s : List ℕ) (at used row : ℕ) (names words names' words' : List ℕ) (w : Extent) : Type 0 where
   pub step : Step
   pub is : next (get_or s at 0) (drop (at + 1) s) ≡ takes step w.more
   pub weighs : weight step ≡ w.len

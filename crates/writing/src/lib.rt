@@ -13,53 +13,44 @@ use brackets::Piece;
 use steps::{Refusal, Scan};
 
 // What a step takes: the bytes of its name once the backslashes are off (0 for an index), and those of the path after its first.
-#[derive(Drop)]
-enum Extent {
-    Wrong(Refusal),
-    Takes { len: usize, more: usize },
+#[derive(Clone, Copy)]
+struct Extent {
+    len: usize,
+    more: usize,
 }
 
-fn extent_at(path: &[u8], at: usize) -> Extent
+fn extent_at(path: &[u8], at: usize) -> Result<Extent, Refusal>
     requires { at < length path.now }
     ensures { ExtentOf path.now at result }
 {
-    let scan = steps::step_at(path, at);
-    match scan {
-        Scan::Wrong(r) => Extent::Wrong(r),
-        Scan::Plain { from: _, len, more } => Extent::Takes { len, more },
-        Scan::Quoted { from: _, len, more } => Extent::Takes { len, more },
-        Scan::Index { value: _, more } => Extent::Takes { len: 0, more },
+    match steps::step_at(path, at)? {
+        Scan::Plain { from: _, len, more } => Ok(Extent { len, more }),
+        Scan::Quoted { from: _, len, more } => Ok(Extent { len, more }),
+        Scan::Index { value: _, more } => Ok(Extent { len: 0, more }),
     }
 }
 
-// What all steps take, or the first refusal met.
-#[derive(Drop)]
-pub enum Measure {
-    Wrong(Refusal),
-    Good { count: usize, total: usize },
+// How many steps, and how many bytes their names take.
+#[derive(Clone, Copy)]
+pub struct Parsed {
+    pub count: usize,
+    pub total: usize,
 }
 
-// The steps after one another: how many, and the bytes of their names.
-pub fn measure_steps(path: &[u8]) -> Measure
+// The steps after one another, or the first refusal met.
+pub fn measure_steps(path: &[u8]) -> Result<Parsed, Refusal>
     ensures { MeasureOf path.now result }
 {
     let mut at = 0;
     let mut count = 0;
     let mut total = 0;
     while at < path.len() {
-        let extent = extent_at(path, at);
-        match extent {
-            Extent::Wrong(r) => {
-                return Measure::Wrong(r);
-            }
-            Extent::Takes { len, more } => {
-                total += len;
-                at += more + 1;
-                count += 1;
-            }
-        }
+        let extent = extent_at(path, at)?;
+        total += extent.len;
+        at += extent.more + 1;
+        count += 1;
     }
-    Measure::Good { count, total }
+    Ok(Parsed { count, total })
 }
 
 // `len` bytes of what brackets hold, without the backslashes, into the names at `to`.
@@ -68,22 +59,12 @@ fn copy_content(path: &[u8], from: usize, len: usize, names: &mut [u8], to: usiz
     ensures { names.new ≡ sets names.old to (take len (content false (drop from path.now))) }
 {
     let mut at = from;
-    let mut i = 0;
-    while i < len {
-        let unit = brackets::unit_at(path, at);
-        match unit {
-            Piece::Never => {
-                return;
-            }
-            Piece::Close => {
-                return;
-            }
-            Piece::Byte { byte, size } => {
-                names[to + i] = byte;
-                at += size;
-                i += 1;
-            }
-        }
+    for i in 0..len {
+        let Piece::Byte { byte, size } = brackets::unit_at(path, at) else {
+            return;
+        };
+        names[to + i] = byte;
+        at += size;
     }
 }
 
@@ -97,13 +78,6 @@ fn put_row(words: &mut [u32], row: usize, kind: usize, first: usize, second: usi
     words[row + 2] = second as u32;
 }
 
-// What a written step took: bytes of the names, and bytes of the path after its first.
-#[derive(Clone, Copy)]
-struct Wrote {
-    len: usize,
-    more: usize,
-}
-
 // The step that stands at `at`, into names and words.
 fn write_step(
     path: &[u8],
@@ -112,26 +86,24 @@ fn write_step(
     used: usize,
     words: &mut [u32],
     row: usize,
-) -> Wrote
+) -> Extent
     requires { (at < length path.now) × Due path.now at used row names.old words.old }
     ensures { WroteOf path.now at used row names.old words.old names.new words.new result }
 {
-    let scan = steps::step_at(path, at);
-    match scan {
-        Scan::Wrong(_) => Wrote { len: 0, more: 0 },
+    match steps::step_at(path, at).unwrap() {
         Scan::Plain { from, len, more } => {
             put::copy(path, from, len, names, used);
             put_row(words, row, 0, used, used + len);
-            Wrote { len, more }
+            Extent { len, more }
         }
         Scan::Quoted { from, len, more } => {
             copy_content(path, from, len, names, used);
             put_row(words, row, 0, used, used + len);
-            Wrote { len, more }
+            Extent { len, more }
         }
         Scan::Index { value, more } => {
             put_row(words, row, 1, value % 0x1_0000_0000, value / 0x1_0000_0000);
-            Wrote { len: 0, more }
+            Extent { len: 0, more }
         }
     }
 }
@@ -146,9 +118,9 @@ pub fn write_steps(path: &[u8], names: &mut [u8], words: &mut [u32])
     let mut used = 0;
     let mut row = 0;
     while at < path.len() {
-        let w = write_step(path, at, names, used, words, row);
-        used += w.len;
+        let extent = write_step(path, at, names, used, words, row);
+        used += extent.len;
         row += 3;
-        at += w.more + 1;
+        at += extent.more + 1;
     }
 }

@@ -19,15 +19,15 @@ write_steps_spec =
     (λ c. write_start c.requires)  -- loop-holds
     (λ c κs. (omega arith, write_due c.loop-at.invariant (omega arith)))  -- write-step-requires
     (λ c. let w = c in
-    let t = write_turn w.loop-at.invariant (omega arith) w.write_step-w.ensures in
+    let t = write_turn w.loop-at.invariant (omega arith) w.write_step-extent.ensures in
     omega (arith, t.names_room, t.same_names))  -- add-used
     (λ c. let w = c in
-    let t = write_turn w.loop-at.invariant (omega arith) w.write_step-w.ensures in
+    let t = write_turn w.loop-at.invariant (omega arith) w.write_step-extent.ensures in
     omega (arith, t.words_room, t.same_words))  -- add-row
-    (λ c. omega (arith, c.write_step-w.ensures.inside))  -- add-at
-    (λ c. omega (arith, c.write_step-w.ensures.inside))  -- add-at-2
-    (λ c. omega (arith, c.write_step-w.ensures.inside))  -- loop-less
-    (λ c. let w = c in write_turn w.loop-at.invariant (omega arith) w.write_step-w.ensures)  -- loop-again
+    (λ c. omega (arith, c.write_step-extent.ensures.inside))  -- add-at
+    (λ c. omega (arith, c.write_step-extent.ensures.inside))  -- add-at-2
+    (λ c. omega (arith, c.write_step-extent.ensures.inside))  -- loop-less
+    (λ c. let w = c in write_turn w.loop-at.invariant (omega arith) w.write_step-extent.ensures)  -- loop-again
     (λ c. c.loop-at.invariant.same_names)  -- same-length
     (λ c. c.loop-at.invariant.same_words)  -- same-length-2
     (λ c. write_end c.loop-at.invariant (omega arith)))  -- returns
