@@ -10,11 +10,7 @@ pub fn copy(bytes: &[u8], from: usize, len: usize, room: &mut [u8], to: usize)
     requires { (from + len ≤ length bytes.now) × (to + len ≤ length room.old) }
     ensures { room.new ≡ sets room.old to (take len (drop from bytes.now)) }
 {
-    let mut i = 0;
-    while i < len {
-        room[to + i] = bytes[from + i];
-        i += 1;
-    }
+    room[to..to + len].copy_from_slice(&bytes[from..from + len]);
 }
 
 // The low `width` bytes of a number into the room at `to`, the lowest first.
