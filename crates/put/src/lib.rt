@@ -18,13 +18,9 @@ pub fn number(n: usize, width: usize, room: &mut [u8], to: usize)
     requires { to + width ≤ length room.old }
     ensures { room.new ≡ sets room.old to (bytes_of width n) }
 {
-    let mut left = width;
-    let mut at = to;
     let mut rest = n;
-    while 0 < left {
+    for at in to..to + width {
         room[at] = (rest % 256) as u8;
         rest = rest / 256;
-        at += 1;
-        left -= 1;
     }
 }
