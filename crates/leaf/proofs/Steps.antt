@@ -1,6 +1,7 @@
 -- A leaf that stands in a whole: where its text is, and what its check answers by the check of that. Assumes nothing.
 use Rattle.rules.proofs.Prelude.{◌≡◌, sym, ◌∙◌, true, false, List, ℕ, ◌+◌, ◌-◌, ◌≤◌, ◌<◌, arith, length, get_or, false_true}
 use Rattle.std.specs.Prelude.{Result, Ok, Err}
+use borrow.Author.Tests.{eqb-true}
 use Rattle.part.specs.Part.{part}
 use Rattle.part.proofs.Laws.{part_length, part_first, part_part}
 use Rattle.encoding.specs.declared.Header.{Header}
@@ -21,6 +22,11 @@ use Rattle.leaf.proofs.Means.{all_pass, is_due}
 -- a leaf of n bytes from a to e of the whole w, of which a range is known to be text
 abbrev Stands : (w : List ℕ) (a e n : ℕ) → Span → Type 0
 Stands w a e n t = (a ≤ e) × (e ≤ length w) × KnownOf w t × (own_length (part w a e) ≡ Ok n)
+
+-- a string's type is 14 at least
+pub string_type : (t : ℕ) → is_string (header.Primitive t) ≡ true → 14 ≤ t
+unfolding is_string
+string_type t is = omega (arith, eqb-true t 16 is)
 
 module _ {w : List ℕ} {a e n : ℕ} {t : Span} (stands : Stands w a e n t) where
   own : own_length (part w a e) ≡ Ok n

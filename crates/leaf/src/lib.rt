@@ -6,6 +6,8 @@ ghost use Rattle.part.specs.Part.{part};
 ghost use Rattle.chars.specs.Rfc3629.{Text};
 ghost use Rattle.lengths.specs.Lengths.{own_length};
 ghost use Rattle.texts.specs.Known.{KnownOf};
+ghost use Rattle.encoding.specs.declared.Header.TheVariants as header;
+ghost use Rattle.leaf.specs.Leaf.{is_string as is_text_by};
 ghost use Rattle.leaf.specs.Steps.{TextOf, LeafOf, SmallOf};
 
 use encoding::Header;
@@ -75,6 +77,14 @@ fn check_text(whole: &[u8], i: usize, j: usize, known: Span) -> Result<Span, Ref
     texts::check(whole, i, j, known).ok_or(Refusal::NotUtf8)
 }
 
+// Whether a primitive's bytes are text. Those of type 15 are not judged.
+#[tactic(auto, unfolding(crate::specs::Leaf::is_string))]
+fn is_string(t: usize) -> bool
+    ensures { result ≡ is_text_by (header.Primitive t) }
+{
+    t == 16
+}
+
 // The leaf from a to e of the whole, whose own bytes are n.
 fn check_measured(whole: &[u8], a: usize, e: usize, n: usize, known: Span) -> Result<Span, Refusal>
     requires { (a ≤ e) × (e ≤ length whole.now) × KnownOf whole.now known × (own_length (part whole.now a e) ≡ Ok n) }
@@ -83,7 +93,7 @@ fn check_measured(whole: &[u8], a: usize, e: usize, n: usize, known: Span) -> Re
     let header = encoding::header_of(whole[a]);
     match header {
         Header::Primitive(t) => {
-            if t == 16 {
+            if is_string(t) {
                 return check_text(whole, a + 5, a + n, known);
             }
             Ok(known)
