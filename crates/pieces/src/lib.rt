@@ -7,7 +7,6 @@ ghost use Rattle.pieces.specs.Feed.{state_of};
 ghost use Rattle.pieces.specs.Promises.{BeginPromise, FeedPromise, ReceivePromise, JudgedPromise};
 
 use dictionary::{LIMIT, Refusal};
-use eights::least;
 use metadata::Accepted;
 
 // What goes in with a piece and comes back: so many bytes held, and more wanted; the settled answer; 44, more bytes have come than there is
@@ -30,7 +29,7 @@ pub fn begin() -> State
 fn room_of(store: &[u8]) -> usize
     ensures { result ≡ room store.now }
 {
-    least(store.len(), LIMIT)
+    store.len().min(LIMIT)
 }
 
 // What a piece is answered by: the state after it, and beside the bytes held how many are wanted.
@@ -78,8 +77,8 @@ pub fn receive(store: &mut [u8], piece: &[u8], held: usize) -> Fed
     if room < held {
         return Fed::Full;
     }
-    let n = least(room - held, piece.len());
-    put::copy(piece, 0, n, store, held);
+    let n = (room - held).min(piece.len());
+    store[held..held + n].copy_from_slice(&piece[0..n]);
     judge(&store[0..held + n], n < piece.len())
 }
 
