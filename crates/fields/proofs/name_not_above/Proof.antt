@@ -17,4 +17,4 @@ name_not_above_spec =
     (λ c. search rules) (λ c. search rules) (λ c. search rules) (λ c. search rules) (λ c. search rules) (λ c. search rules)
     (λ c κs. search rules)
     (λ c. let a = c.args in
-    rw c.is_below-rises.ensures (says_not a.k (below (part a.dict.now a.p a.q) (part a.dict.now a.a a.e)) (omega arith))))  -- returns-2
+    rw c.is_below-rises.ensures (says_not a.k (below (part a.dict.now a.before.start a.before.end) (part a.dict.now a.name.start a.name.end)) (omega arith))))  -- returns-2
