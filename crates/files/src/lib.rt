@@ -1,7 +1,7 @@
 // A file's bytes, or why it cannot be read. What cannot be read to its end is not read.
 #![tactic(auto)]
 
-ghost use Rattle.std.specs.Prelude.{◌≤◌, length, IfOk};
+ghost use Rattle.std.specs.Prelude.{◌≤◌, length, IfOk, IfSome};
 
 use print::room::{ROOM, use_library};
 use print::{quoted_to, tell_to};
@@ -11,21 +11,6 @@ use std::{fs, io, str};
 
 // What a file is read into: a byte more than a program has room for, so that a longer file is seen.
 pub const LENT: usize = ROOM + 1;
-
-#[derive(Drop)]
-pub struct File {
-    pub good: bool,
-    pub len: usize,
-}
-
-fn bad() -> File
-    ensures { result.len ≤ 0 }
-{
-    File {
-        good: false,
-        len: 0,
-    }
-}
 
 // A name that is no text is InvalidData, since `std` opens no file by one; no file's own error is that.
 fn why(to: &mut impl Write, error: &io::Error) -> io::Result<()> {
@@ -101,62 +86,64 @@ fn read_file(rt: &impl Files, path: &[u8], out: &mut [u8]) -> io::Result<usize>
     read(&mut open(rt, path)?, out)
 }
 
-// All of a file; why it cannot be read goes to `to`.
+// All of a file, and how long it is; None where it cannot be read, and why goes to `to`.
 pub fn load_to(
     rt: &impl Files,
     to: &mut impl Write,
     path: &[u8],
     out: &mut [u8; LENT],
-) -> io::Result<File>
-    ensures len_bound { IfOk result (λ file. file.len ≤ ROOM) }
-    ensures len_in_bounds { IfOk result (λ file. file.len ≤ length out.new) }
+) -> io::Result<Option<usize>>
+    ensures len_bound { IfOk result (λ file. IfSome file (λ len. len ≤ ROOM)) }
+    ensures len_in_bounds { IfOk result (λ file. IfSome file (λ len. len ≤ length out.new)) }
 {
     match read_file(rt, path, out) {
         Err(error) => {
             failed(to, path, &error)?;
-            Ok(bad())
+            Ok(None)
         }
         Ok(file_len) => {
             if ROOM < file_len {
                 too_long(to, path)?;
-                return Ok(bad());
+                return Ok(None);
             }
-            Ok(File {
-                good: true,
-                len: file_len,
-            })
+            Ok(Some(file_len))
         }
     }
 }
 
-pub fn load(rt: &(impl Files + Print), path: &[u8], out: &mut [u8; LENT]) -> io::Result<File>
-    ensures len_bound { IfOk result (λ file. file.len ≤ ROOM) }
-    ensures len_in_bounds { IfOk result (λ file. file.len ≤ length out.new) }
+pub fn load(
+    rt: &(impl Files + Print),
+    path: &[u8],
+    out: &mut [u8; LENT],
+) -> io::Result<Option<usize>>
+    ensures len_bound { IfOk result (λ file. IfSome file (λ len. len ≤ ROOM)) }
+    ensures len_in_bounds { IfOk result (λ file. IfSome file (λ len. len ≤ length out.new)) }
 {
     load_to(rt, &mut io::writer(rt), path, out)
 }
 
-// All of standard input, or of what is read in its place; why it cannot be read goes to `to`.
-pub fn input(from: &mut impl Read, to: &mut impl Write, out: &mut [u8; LENT]) -> io::Result<File>
-    ensures len_bound { IfOk result (λ file. file.len ≤ ROOM) }
-    ensures len_in_bounds { IfOk result (λ file. file.len ≤ length out.new) }
+// The same of standard input, or of what is read in its place.
+pub fn input(
+    from: &mut impl Read,
+    to: &mut impl Write,
+    out: &mut [u8; LENT],
+) -> io::Result<Option<usize>>
+    ensures len_bound { IfOk result (λ file. IfSome file (λ len. len ≤ ROOM)) }
+    ensures len_in_bounds { IfOk result (λ file. IfSome file (λ len. len ≤ length out.new)) }
 {
     match read(from, out) {
         Err(error) => {
             input_failed(to, b"", &error)?;
-            Ok(bad())
+            Ok(None)
         }
         Ok(text_len) => {
             if ROOM < text_len {
                 tell_to(to, b"standard input is")?;
                 use_library(to, ROOM, b" bytes")?;
                 tell_to(to, b"\n")?;
-                return Ok(bad());
+                return Ok(None);
             }
-            Ok(File {
-                good: true,
-                len: text_len,
-            })
+            Ok(Some(text_len))
         }
     }
 }

@@ -18,33 +18,19 @@ pub fn start() -> Source {
     Source { at: 0, have: 0 }
 }
 
-#[derive(Drop)]
-enum Next {
-    Byte { b: u8, source: Source },
-    End,
-}
-
-fn take(rt: &impl Input, chunk: &mut [u8], s: Source) -> io::Result<Next> {
-    let at = s.at;
-    if at < s.have {
-        if at < chunk.len() {
-            return Ok(Next::Byte {
-                b: chunk[at],
-                source: Source {
-                    at: at + 1,
-                    have: s.have,
-                },
-            });
-        }
+// The next byte; None where the input has ended.
+fn take(rt: &impl Input, chunk: &mut [u8], source: &mut Source) -> io::Result<Option<u8>> {
+    let at = source.at;
+    if at < source.have && at < chunk.len() {
+        source.at += 1;
+        return Ok(Some(chunk[at]));
     }
     let have = rt.reader().read(chunk)?;
     if have == 0 {
-        return Ok(Next::End);
+        return Ok(None);
     }
-    Ok(Next::Byte {
-        b: chunk[0],
-        source: Source { at: 1, have },
-    })
+    *source = Source { at: 1, have };
+    Ok(Some(chunk[0]))
 }
 
 // A line: its first `len` bytes are in the room lent. It is long where there were more, and the last where the input ended. Of a line that
@@ -57,32 +43,14 @@ pub struct Read {
     pub source: Source,
 }
 
-// How long the line is with `b` after it, as far as there is room.
-fn put(line: &mut [u8], len: usize, b: u8) -> usize
-    requires { len ≤ length line.old }
-    ensures { result ≤ length line.new }
-{
-    if len < line.len() {
-        line[len] = b;
-        return len + 1;
-    }
-    len
-}
-
-fn longer(long: bool, before: usize, after: usize) -> bool {
-    if before == after {
-        return true;
-    }
-    long
-}
-
-fn ended(len: usize, long: bool, last: bool, source: Source) -> Read
+// The last line.
+fn ended(len: usize, long: bool, source: Source) -> Read
     ensures { result.len ≤ len }
 {
     Read {
         len,
         long,
-        last,
+        last: true,
         source,
     }
 }
@@ -104,22 +72,29 @@ pub fn read_line(
     let mut len: usize = 0;
     let mut long = false;
     for _ in 0..u64::MAX {
-        match take(rt, chunk, source) {
+        match take(rt, chunk, &mut source) {
             Err(error) => {
                 failed(rt, &error)?;
-                return Ok(ended(0, false, true, source));
+                return Ok(ended(0, false, source));
             }
-            Ok(Next::End) => return Ok(ended(len, long, true, source)),
-            Ok(Next::Byte { b, source: s }) => {
-                source = s;
-                if b == b'\n' {
-                    return Ok(ended(len, long, false, source));
+            Ok(None) => return Ok(ended(len, long, source)),
+            Ok(Some(b'\n')) => {
+                return Ok(Read {
+                    len,
+                    long,
+                    last: false,
+                    source,
+                });
+            }
+            Ok(Some(b)) => {
+                if len < line.len() {
+                    line[len] = b;
+                    len += 1;
+                } else {
+                    long = true;
                 }
-                let before = len;
-                len = put(line, len, b);
-                long = longer(long, before, len);
             }
         }
     }
-    Ok(ended(len, long, true, source))
+    Ok(ended(len, long, source))
 }
