@@ -1,39 +1,21 @@
 -- What the loops that look for a double go by. Assumes nothing.
 use native.Mathlib.Decide.{ℕ_discrete}
-use Rattle.rules.proofs.Prelude.{◌≡◌, refl, sym, ap, ◌∙◌, List, ℕ, suc, ◌+◌, ◌≤◌, ◌<◌, add-one, arith, length}
-use Rattle.names.specs.declared.Order.TheVariants.{Less, Greater}
+use Rattle.rules.proofs.Prelude.{◌≡◌, refl, List, ℕ, suc, ◌+◌, ◌≤◌, ◌<◌, arith, length}
+use Rattle.names.specs.declared.Order.TheVariants.{Equal}
 use Rattle.names.specs.Order.{compare_of}
-use Rattle.names.proofs.Laws.{less_before, greater_before, before_ne}
+use Rattle.names.proofs.Laws.{compare_refl}
 use Rattle.sets.specs.Sets.{Distinct, Numbered, collect}
 use Rattle.sets.proofs.Laws.{collect_count}
 use Rattle.sets.proofs.Distinct.{as_many, first_double}
-use Rattle.source.specs.declared.Source.{Source}
-use Rattle.source.specs.Names.{name_of, count_of}
-use Rattle.doubles.specs.declared.Doubles.{Doubles}
-use Rattle.doubles.specs.declared.Doubles.TheVariants as doubles
 use Rattle.doubles.specs.Doubles.{Double}
-use Rattle.doubles.specs.Steps.{DoublesOf, SearchedOf}
 
 -- SEARCHED: none of the first i numbers has the name of k
 
 abbrev pub Unlike : (ℕ → List ℕ) → ℕ → ℕ → Type 0
 Unlike name k i = (p : ℕ) → p < i → name p ≡ name k → ⊥
 
-pub unlike_none : (name : ℕ → List ℕ) (k : ℕ) → Unlike name k 0
-unlike_none name k p q = absurd (omega arith)
-
-pub unlike_more : (name : ℕ → List ℕ) (k i : ℕ) → Unlike name k i → (name i ≡ name k → ⊥) → Unlike name k (i + 1)
-unlike_more name k i u n p q e = go (ℕ_discrete p i)
-  where
-    go : Dec (p ≡ i) → ⊥
-    go (yes z) = n (rw z at e)
-    go (no z) = u p (omega arith) e
-
-pub not_less : (s t : List ℕ) → compare_of s t ≡ Less → s ≡ t → ⊥
-not_less s t c e = before_ne (less_before s t c) e
-
-pub not_greater : (s t : List ℕ) → compare_of s t ≡ Greater → s ≡ t → ⊥
-not_greater s t c e = before_ne (greater_before s t c) (sym e)
+pub unlike_other : (s t : List ℕ) → (compare_of s t ≡ Equal → ⊥) → s ≡ t → ⊥
+unlike_other s t n e = n (rw e (compare_refl t))
 
 -- one number more whose name is new
 pub distinct_none : (name : ℕ → List ℕ) → Distinct name 0 0
@@ -56,12 +38,6 @@ halved name n low high p q r e f =
 pub collect_none : (name : ℕ → List ℕ) → length (collect name 0 0) ≡ 0
 unfolding collect
 collect_none name = refl
-
--- a search has no order to tell
-pub searched : (run words : List ℕ) (kind : Source) (order : List ℕ) (r : Doubles)
-    → SearchedOf (name_of run words kind) (count_of words kind) r → DoublesOf run words kind order r
-searched run words kind order (doubles.None plan) s = record { passes = s.1; planned = rw s.0 tt }
-searched run words kind order (doubles.At k) s = s
 
 -- where names and numbers are not as many, they are fewer
 pub fewer : (name : ℕ → List ℕ) {m n all : ℕ} → n ≡ all → length (collect name 0 all) ≡ m → (m ≡ n → ⊥) → length (collect name 0 n) < n

@@ -1,7 +1,6 @@
 -- 26 is not given exactly when no two numbers have one name, and is given at k exactly when k is the first whose name an earlier one has.
 -- Assumes nothing.
-use native.Mathlib.Decide.{ℕ_discrete}
-use Rattle.rules.proofs.Prelude.{◌≡◌, refl, sym, ap, ◌∙◌, ◌↔◌, Bool, true, false, List, ℕ, ◌+◌, ◌≤◌, ◌<◌, arith, first, each, pass, stop, ◌&◌, Passed, Meant, first_at}
+use Rattle.rules.proofs.Prelude.{◌≡◌, refl, sym, ap, ◌∙◌, ◌↔◌, true, false, List, ℕ, ◌<◌, arith, first, each, pass, stop, ◌&◌, Meant, first_at}
 use Rattle.rules.proofs.Prelude.{by_each, meant_map, meant_pass, meant_stop, each_pass, each_stop, false_true}
 use Rattle.names.specs.Search.{Sought, seek}
 use Rattle.names.specs.Search.Sought.{nowhere, here}

@@ -3,20 +3,17 @@
 #![tactic(auto)]
 
 ghost use Rattle.std.specs.Prelude.{◌≡◌, ◌≤◌, ◌<◌, length};
-ghost use Rattle.rules.specs.Rules.Found.{pass, stop};
 ghost use Rattle.sets.specs.Sets.{collect};
 ghost use Rattle.source.specs.Names.{name_of, count_of, Sound};
-ghost use Rattle.doubles.specs.Doubles.{checks as checks_of, Double};
+ghost use Rattle.doubles.specs.Doubles.{Double as FirstDouble};
 ghost use Rattle.doubles.specs.Steps.{SeenOf, DoublesOf, SearchedOf};
 
-use pick::Plan;
 use source::{Source, compare};
 
-// No name stands twice, and the names' order; or the first number whose name an earlier one has.
-#[derive(Drop)]
-pub enum Doubles {
-    None(Plan),
-    At(usize),
+// The first number whose name an earlier one has.
+#[derive(Clone, Copy)]
+pub struct Double {
+    pub number: usize,
 }
 
 // Whether a number before k has the name of k.
@@ -24,38 +21,26 @@ fn is_seen(run: &[u8], words: &[u32], k: usize, kind: Source) -> bool
     requires { Sound run.now words.now kind × (k < count_of words.now kind) }
     ensures { SeenOf (name_of run.now words.now kind) k result }
 {
-    let mut i = 0;
-    while i < k {
-        let order = compare(run, words, kind, i, k);
-        match order {
-            names::Order::Less => {
-                i += 1;
-            }
-            names::Order::Equal => {
-                return true;
-            }
-            names::Order::Greater => {
-                i += 1;
-            }
+    for i in 0..k {
+        match compare(run, words, kind, i, k) {
+            names::Order::Equal => return true,
+            _ => {}
         }
     }
     false
 }
 
 // By search: each name among those before it.
-fn search(run: &[u8], words: &[u32], kind: Source) -> Doubles
+fn search(run: &[u8], words: &[u32], kind: Source) -> Result<(), Double>
     requires { Sound run.now words.now kind }
     ensures { SearchedOf (name_of run.now words.now kind) (count_of words.now kind) result }
 {
-    let n = source::count_of(words, kind);
-    let mut k = 0;
-    while k < n {
-        if is_seen(run, words, k, kind) {
-            return Doubles::At(k);
+    for number in 0..source::count_of(words, kind) {
+        if is_seen(run, words, number, kind) {
+            return Err(Double { number });
         }
-        k += 1;
     }
-    Doubles::None(Plan::Searched)
+    Ok(())
 }
 
 // How many names the first numbers have, each once: they are sorted in scratch.
@@ -90,7 +75,7 @@ fn halve(
     kind: Source,
 ) -> usize
     requires { Sound run.now words.now kind × (n ≡ count_of words.now kind) × (n ≤ length order.old) × (n ≤ length spare.old) × (n < 4294967296) × (length (collect (name_of run.now words.now kind) 0 n) < n) }
-    ensures { Double (name_of run.now words.now kind) n result }
+    ensures { FirstDouble (name_of run.now words.now kind) n result }
 {
     let mut low = 0;
     let mut high = n;
@@ -105,26 +90,30 @@ fn halve(
     low
 }
 
-// The first number whose name an earlier one has; or the names' order, in scratch where there is enough.
+// The first number whose name an earlier one has; or where the names stand in order, if scratch is enough.
 pub fn check(
     run: &[u8],
     words: &[u32],
     order: &mut [u32],
     spare: &mut [u32],
     kind: Source,
-) -> Doubles
+) -> Result<Option<usize>, Double>
     requires { Sound run.now words.now kind }
     ensures { DoublesOf run.now words.now kind order.new result }
 {
-    let plan = pick::plan_for(run, words, order, spare, kind);
-    match plan {
-        Plan::Sorted(m) => {
+    match pick::plan_for(run, words, order, spare, kind) {
+        Some(many) => {
             let n = source::count_of(words, kind);
-            if m == n {
-                return Doubles::None(Plan::Sorted(m));
+            if many == n {
+                return Ok(Some(many));
             }
-            Doubles::At(halve(run, words, n, order, spare, kind))
+            Err(Double {
+                number: halve(run, words, n, order, spare, kind),
+            })
         }
-        Plan::Searched => search(run, words, kind),
+        None => {
+            search(run, words, kind)?;
+            Ok(None)
+        }
     }
 }
