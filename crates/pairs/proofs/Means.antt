@@ -2,8 +2,7 @@
 -- Assumes nothing.
 use Rattle.rules.proofs.Prelude.{◌≡◌, refl, ◌↔◌, ◌⊎◌, ⊎_elim, inl, inr, List, ℕ, ◌≤◌, ◌<◌, dec_lt, arith, length, Passed, pass, stop, ◌&◌, Meant}
 use Rattle.rules.proofs.Prelude.{by_each, meant_map, meant_pass, meant_stop, each_pass, each_stop, first_at}
-use Rattle.dictionary.specs.Dictionary as dictionary
-use Rattle.source.specs.Pairs.{pairs, id, from, to}
+use Rattle.source.specs.Pairs.{pairs, from, to}
 use Rattle.source.specs.Names.{Entries, GoodRange, GoodRanges}
 use Rattle.pairs.specs.Checks.{id_rules, id_checks, range_rules, range_checks, empty_rules, empty_checks}
 use Rattle.pairs.specs.Meaning.{SomeBytes, NoEntry, BadRange, EmptyChild}

@@ -1,5 +1,5 @@
 -- What good pairs are, and when 25, 45 and 28 are due. proofs/Means.antt shows that the checks of Checks.antt say the same. Assumes nothing.
-use Rattle.std.specs.Prelude.{◌≡◌, ◌⊎◌, List, ℕ, ◌≤◌, ◌<◌, length}
+use Rattle.std.specs.Prelude.{◌⊎◌, List, ℕ, ◌≤◌, ◌<◌, length}
 use Rattle.dictionary.specs.Dictionary as dictionary
 use Rattle.source.specs.Pairs.{pairs, id, from, to}
 use Rattle.source.specs.Names.{GoodRange}

@@ -1,114 +1,81 @@
 // Pairs that are given to be written as fields: 25, 45 and 28, and the largest id (document 02, k).
 #![tactic(auto)]
 
-ghost use Rattle.std.specs.Prelude.{◌≡◌, ◌<◌, max, min, length};
+ghost use Rattle.std.specs.Prelude.{◌≡◌, ◌<◌};
 ghost use Rattle.dictionary.specs.Dictionary.{count as count_of};
 ghost use Rattle.source.specs.Pairs.{pairs};
 ghost use Rattle.pairs.specs.Steps.{IdsOf, ChildOf, ChildrenOf};
 
 use source::{child_at, id_at};
 
-// The first pair whose id is no entry; or the largest id.
-#[derive(Drop)]
-pub enum Ids {
-    NoSuchEntry(usize),
-    Good(usize),
+// The first pair whose id is no entry.
+#[derive(Clone, Copy)]
+pub struct NoSuchEntry {
+    pub number: usize,
 }
 
-fn larger(a: usize, b: usize) -> usize
-    ensures { result ≡ max a b }
-{
-    if a < b {
-        return b;
-    }
-    a
-}
-
-// Over a dictionary of so many entries.
-pub fn check_ids(dict: &[u8], words: &[u32], count: usize) -> Ids
+// The largest id, over a dictionary of so many entries.
+pub fn check_ids(dict: &[u8], words: &[u32], count: usize) -> Result<usize, NoSuchEntry>
     requires { count ≡ count_of dict.now }
     ensures { IdsOf dict.now words.now result }
 {
-    let mut most = 0;
-    let mut k = 0;
-    while k < words.len() / 3 {
-        let id = id_at(words, k);
+    let mut most: usize = 0;
+    for number in 0..words.len() / 3 {
+        let id = id_at(words, number);
         if count <= id {
-            return Ids::NoSuchEntry(k);
+            return Err(NoSuchEntry { number });
         }
-        most = larger(most, id);
-        k += 1;
+        most = most.max(id);
     }
-    Ids::Good(most)
+    Ok(most)
 }
 
-// A pair's child: its range falls or passes the bytes; it has no byte; or it has.
-#[derive(Drop)]
-enum Child {
+// Why a child is refused: its range falls or passes the bytes; or it has no byte.
+#[derive(Clone, Copy)]
+enum Flaw {
     Outside,
     Empty,
-    Good,
 }
 
-fn judge(bytes: &[u8], words: &[u32], k: usize) -> Child
+// The child of pair k.
+fn judge(bytes: &[u8], words: &[u32], k: usize) -> Result<(), Flaw>
     requires { k < pairs words.now }
     ensures { ChildOf bytes.now words.now k result }
 {
     let s = child_at(words, k);
     if s.end < s.start {
-        return Child::Outside;
+        return Err(Flaw::Outside);
     }
     if bytes.len() < s.end {
-        return Child::Outside;
+        return Err(Flaw::Outside);
     }
     if s.end == s.start {
-        return Child::Empty;
+        return Err(Flaw::Empty);
     }
-    Child::Good
-}
-
-fn smaller(a: usize, b: usize) -> usize
-    ensures { result ≡ min a b }
-{
-    if a < b {
-        return a;
-    }
-    b
+    Ok(())
 }
 
 // The first pair whose child's range falls or passes the bytes; where there is none, the first whose child has no byte.
-#[derive(Drop)]
-pub enum Children {
+#[derive(Clone, Copy)]
+pub enum ChildRefusal {
     Outside(usize),
     Empty(usize),
-    Good,
 }
 
 // One pass: the first empty child is kept in mind until all ranges are known to be good.
-pub fn check_children(bytes: &[u8], words: &[u32]) -> Children
+pub fn check_children(bytes: &[u8], words: &[u32]) -> Result<(), ChildRefusal>
     ensures { ChildrenOf bytes.now words.now result }
 {
-    let n = words.len() / 3;
-    // as long as there is none, n
-    let mut empty = n;
-    let mut k = 0;
-    while k < n {
-        let child = judge(bytes, words, k);
-        match child {
-            Child::Outside => {
-                return Children::Outside(k);
-            }
-            Child::Empty => {
-                empty = smaller(empty, k);
-                k += 1;
-            }
-            Child::Good => {
-                k += 1;
-            }
+    let mut empty = None;
+    for k in 0..words.len() / 3 {
+        match judge(bytes, words, k) {
+            Ok(()) => {}
+            Err(Flaw::Outside) => return Err(ChildRefusal::Outside(k)),
+            Err(Flaw::Empty) => empty = empty.or(Some(k)),
         }
     }
-    if empty < n {
-        return Children::Empty(empty);
+    match empty {
+        Some(k) => Err(ChildRefusal::Empty(k)),
+        None => Ok(()),
     }
-    Children::Good
 }
