@@ -1,6 +1,8 @@
 -- What the writer of an object's bytes goes by: the walk over the pairs, the ids a turn, and all of it. Assumes nothing.
 use lib.ListN.{drop_of_length-le}
 use lib.Seq.{length-sets, drop-cons}
+use Rattle.std.specs.Prelude.{Option}
+use Rattle.std.specs.Borrow.{Bor}
 use Rattle.rules.proofs.Prelude.{◌≡◌, refl, sym, ap, ◌∙◌, Bool, true, false, cond, List, [], ◌∷◌, ◌++◌, ℕ, ◌+◌, ◌-◌, ◌*◌, ◌≤◌, ◌<◌, add-one, dec_lt, arith}
 use Rattle.rules.proofs.Prelude.{mul-le-mul_right, lt-ltb, le-ltb, length, drop, get_or, set, sets, length-append}
 use Rattle.width.specs.Width.{bytes_of}
@@ -13,7 +15,6 @@ use Rattle.sets.specs.Sets.{Distinct, collect, total}
 use Rattle.source.specs.declared.Source.TheVariants as source
 use Rattle.source.specs.Pairs.{pairs, id}
 use Rattle.source.specs.Names.{name_of, count_of, Sound, GoodRanges, item_of, Ranged}
-use Rattle.pick.specs.declared.Plan.{Plan}
 use Rattle.pick.specs.Pick as pick
 use Rattle.lay.specs.Items.{numbers_of, items_of}
 use Rattle.lay.specs.Bytes.{offsets, joined}
@@ -72,7 +73,7 @@ module _ (d words : List ℕ) (names : ℕ) (sorts : Bool) where
   unfolding items_of numbers_of pick.list_of name_of count_of item_of pair_name children children_of fields
   items_are bytes = refl
 
-  module _ {order : List ℕ} {plan : Plan} (r : Ready d words order plan names sorts) where
+  module _ {order : Option (Bor (List ℕ))} (r : Ready d words order names sorts) where
     pub sound : Sound d words (source.Pairs names sorts)
     unfolding Sound
     sound = (r.over, r.entries)

@@ -6,9 +6,8 @@ ghost use Rattle.std.proofs.lemmas.List.Edits.{sets};
 ghost use Rattle.run.specs.Meaning.{GoodEnds};
 ghost use Rattle.lay.specs.Bytes.{width_of};
 ghost use Rattle.fill.specs.Bytes.{layout};
-ghost use Rattle.fill.specs.Steps.{list_of, Planned, Laid};
+ghost use Rattle.fill.specs.Steps.{list_of, Sorted, Laid};
 
-use pick::Plan;
 use source::Source;
 
 // The smallest width that holds both the count and the total length.
@@ -25,14 +24,13 @@ pub fn width_for(count: usize, sum: usize) -> usize
 pub fn write_all(
     run: &[u8],
     ends: &[u32],
-    order: &[u32],
-    plan: Plan,
+    order: Option<&[u32]>,
     room: &mut [u8],
     w: usize,
     count: usize,
     region: usize,
 )
-    requires { GoodEnds run.now ends.now × Planned run.now ends.now order.now plan × Laid w (list_of run.now ends.now) room.old count region }
+    requires { GoodEnds run.now ends.now × Sorted run.now ends.now order × Laid w (list_of run.now ends.now) room.old count region }
     ensures { room.new ≡ sets room.old 0 (layout w (list_of run.now ends.now)) }
 {
     room[0] = (0x11 + 64 * (w - 1)) as u8;
@@ -42,7 +40,6 @@ pub fn write_all(
         ends,
         run,
         order,
-        plan,
         room,
         w,
         1 + w,

@@ -1,5 +1,5 @@
 -- What the steps of the writers tell each other. Assumes nothing.
-use Rattle.std.specs.Prelude.{◌≡◌, List, [], ℕ, ◌+◌, ◌≤◌, ◌<◌, max, length, get_or, take, drop}
+use Rattle.std.specs.Prelude.{◌≡◌, List, [], ℕ, ◌+◌, ◌≤◌, ◌<◌, max, length, get_or, take, drop, Option, Some, None, Result, Ok, Err}
 use Rattle.std.proofs.lemmas.List.Edits.{sets}
 use Rattle.put.specs.Numbers.{numbers}
 use Rattle.dictionary.specs.Limits.{limit}
@@ -7,10 +7,9 @@ use Rattle.sets.specs.Sets.{total}
 use Rattle.source.specs.declared.Source.{Source}
 use Rattle.source.specs.Names.{name_of, count_of, Sound, item_of, Ranged}
 use Rattle.pick.specs.Pick as pick
-use Rattle.lay.specs.declared.Entry.{Entry}
-use Rattle.lay.specs.declared.Entry.TheVariants as entry
-use Rattle.lay.specs.declared.Measured.{Measured}
-use Rattle.lay.specs.declared.Measured.TheVariants as measured
+use Rattle.lay.specs.declared.Item.{Item}
+use Rattle.lay.specs.declared.Sizes.{Sizes}
+use Rattle.lay.specs.declared.TooLong.{TooLong}
 use Rattle.lay.specs.Items.{items_of}
 use Rattle.lay.specs.Bytes.{offsets, joined}
 
@@ -33,9 +32,9 @@ pub record Stands (run words bytes : List ℕ) (kind : Source) (j number start l
   pub bytes_are : take len (drop start bytes) ≡ get_or (items_of run words bytes kind) j []
   pub len_is : len ≡ length (get_or (items_of run words bytes kind) j [])
 
-abbrev pub EntryOf : List ℕ → List ℕ → List ℕ → Source → ℕ → Entry → Type 0
-EntryOf run words bytes kind j entry.Done = j ≡ length (items_of run words bytes kind)
-EntryOf run words bytes kind j (entry.At number start len) = Stands run words bytes kind j number start len
+abbrev pub EntryOf : List ℕ → List ℕ → List ℕ → Source → ℕ → Option Item → Type 0
+EntryOf run words bytes kind j None = j ≡ length (items_of run words bytes kind)
+EntryOf run words bytes kind j (Some item) = Stands run words bytes kind j item.number item.start item.len
 
 -- the count and the total length, where they are within the limit
 pub record SizesOf (items : List (List ℕ)) (count sum : ℕ) : Type 0 where
@@ -44,9 +43,9 @@ pub record SizesOf (items : List (List ℕ)) (count sum : ℕ) : Type 0 where
   pub few : count ≤ limit
   pub short : sum ≤ limit
 
-abbrev pub MeasuredOf : List (List ℕ) → Measured → Type 0
-MeasuredOf items measured.TooLong = limit < max (length items) (total items)
-MeasuredOf items (measured.Sizes count sum) = SizesOf items count sum
+abbrev pub MeasuredOf : List (List ℕ) → Result Sizes TooLong → Type 0
+MeasuredOf items (Err _) = limit < max (length items) (total items)
+MeasuredOf items (Ok sizes) = SizesOf items sizes.count sizes.sum
 
 -- offsets from `at` on and items from `region` on have room, the one before the other
 pub record Apart (w : ℕ) (items : List (List ℕ)) (room : List ℕ) (at region : ℕ) : Type 0 where
