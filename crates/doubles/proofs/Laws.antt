@@ -1,7 +1,7 @@
 -- What the loops that look for a double go by. Assumes nothing.
 use native.Mathlib.Decide.{ℕ_discrete}
 use Rattle.rules.proofs.Prelude.{◌≡◌, refl, List, ℕ, suc, ◌+◌, ◌≤◌, ◌<◌, arith, length}
-use Rattle.names.specs.declared.Order.TheVariants.{Equal}
+use Rattle.std.specs.declared.cmp.Ordering.TheVariants.{Equal}
 use Rattle.names.specs.Order.{compare_of}
 use Rattle.names.proofs.Laws.{compare_refl}
 use Rattle.sets.specs.Sets.{Distinct, Numbered, collect}

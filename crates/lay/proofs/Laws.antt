@@ -16,7 +16,7 @@ use Rattle.dictionary.specs.Limits.{limit}
 use Rattle.sets.specs.Sets.{total}
 use Rattle.sets.proofs.Laws.{total_next, total_part, collect_count}
 use Rattle.source.specs.declared.Source.{Source}
-use Rattle.source.specs.declared.Span.{Span}
+use Rattle.part.specs.declared.Span.{Span}
 use Rattle.source.specs.Names.{name_of, count_of, item_of}
 use Rattle.source.specs.Steps.{SpanOf}
 use Rattle.source.proofs.Laws.{count_within}

@@ -8,8 +8,8 @@ use Prim.Native.Nat.{ℕ, zero, suc, ◌+◌, ◌≤◌, ◌<◌}
 use native.Mathlib.Decide.{dec_lt, ℕ_discrete}
 use native.Mathlib.Omega.{arith}
 use lib.ListN.{length}
-use Rattle.names.specs.declared.Order.{Order}
-use Rattle.names.specs.declared.Order.TheVariants.{Less, Equal, Greater}
+use Rattle.std.specs.declared.cmp.Ordering.{Ordering}
+use Rattle.std.specs.declared.cmp.Ordering.TheVariants.{Less, Equal, Greater}
 use Rattle.names.specs.Order.{Before, Says, compare_of}
 use Rattle.names.specs.Order.Says.{less, equal, greater}
 use Rattle.names.proofs.Laws.{compare_says, before_ne, before_asym}
@@ -23,7 +23,7 @@ unfolding insert
 insert_new x [] n = refl
 insert_new x (y ∷ ys) n = go (compare_of x y) (compare_says x y) (insert_new x ys (λ h. n (inr h)))
   where
-    go : (o : Order) → Says x y o → length (insert x ys) ≡ suc (length ys) → length (placed o x y ys (insert x ys)) ≡ suc (suc (length ys))
+    go : (o : Ordering) → Says x y o → length (insert x ys) ≡ suc (length ys) → length (placed o x y ys (insert x ys)) ≡ suc (suc (length ys))
     go Less s r = refl
     go Equal (equal e) r = absurd (n (inl e))
     go Greater s r = ap suc r
@@ -76,7 +76,7 @@ in_or_not : (x : List ℕ) (ys : List (List ℕ)) → In x ys ⊎ (In x ys → �
 in_or_not x [] = inr (λ h. h)
 in_or_not x (y ∷ ys) = go (compare_of x y) (compare_says x y) (in_or_not x ys)
   where
-    go : (o : Order) → Says x y o → In x ys ⊎ (In x ys → ⊥) → In x (y ∷ ys) ⊎ (In x (y ∷ ys) → ⊥)
+    go : (o : Ordering) → Says x y o → In x ys ⊎ (In x ys → ⊥) → In x (y ∷ ys) ⊎ (In x (y ∷ ys) → ⊥)
     go o s (inl h) = inl (inr h)
     go Less (less b) (inr n) = inr (⊎_elim (λ e. before_ne b e) n)
     go Equal (equal e) (inr n) = inl (inl e)
