@@ -1,9 +1,11 @@
 -- What the loops that look for a double go by. Assumes nothing.
 use native.Mathlib.Decide.{ℕ_discrete}
-use Rattle.rules.proofs.Prelude.{◌≡◌, refl, List, ℕ, suc, ◌+◌, ◌≤◌, ◌<◌, arith, length}
-use Rattle.std.specs.declared.cmp.Ordering.TheVariants.{Equal}
+use Rattle.rules.proofs.Prelude.{◌≡◌, refl, List, ℕ, suc, ◌+◌, ◌≤◌, ◌<◌, arith, length, Bool, true, false}
+use Rattle.std.specs.Ordering.{is_eq}
+use Rattle.std.specs.declared.cmp.Ordering.{Ordering}
+use Rattle.std.specs.declared.cmp.Ordering.TheVariants.{Less, Equal, Greater}
 use Rattle.names.specs.Order.{compare_of}
-use Rattle.names.proofs.Laws.{compare_refl}
+use Rattle.names.proofs.Laws.{compare_refl, compare_equal}
 use Rattle.sets.specs.Sets.{Distinct, Numbered, collect}
 use Rattle.sets.proofs.Laws.{collect_count}
 use Rattle.sets.proofs.Distinct.{as_many, first_double}
@@ -14,8 +16,17 @@ use Rattle.doubles.specs.Doubles.{Double}
 abbrev pub Unlike : (ℕ → List ℕ) → ℕ → ℕ → Type 0
 Unlike name k i = (p : ℕ) → p < i → name p ≡ name k → ⊥
 
-pub unlike_other : (s t : List ℕ) → (compare_of s t ≡ Equal → ⊥) → s ≡ t → ⊥
-unlike_other s t n e = n (rw e (compare_refl t))
+-- names that compare as equal are, and others are not
+pub told_equal : (s t : List ℕ) → is_eq (compare_of s t) ≡ true → s ≡ t
+told_equal s t e = compare_equal s t (go (compare_of s t) e)
+  where
+    go : (o : Ordering) → is_eq o ≡ true → o ≡ Equal
+    go Less e = let z : ◌≡◌ {A = ℕ} 0 1 = cc in absurd (omega arith)
+    go Equal e = refl
+    go Greater e = let z : ◌≡◌ {A = ℕ} 0 1 = cc in absurd (omega arith)
+
+pub told_other : (s t : List ℕ) → is_eq (compare_of s t) ≡ false → s ≡ t → ⊥
+told_other s t e p = let w : ◌≡◌ {A = Bool} true false = rw (p, compare_refl t) at e in let z : ◌≡◌ {A = ℕ} 0 1 = cc in omega arith
 
 -- one number more whose name is new
 pub distinct_none : (name : ℕ → List ℕ) → Distinct name 0 0

@@ -22,9 +22,8 @@ fn is_seen(run: &[u8], words: &[u32], k: usize, kind: Source) -> bool
     ensures { SeenOf (name_of run.now words.now kind) k result }
 {
     for i in 0..k {
-        match compare(run, words, kind, i, k) {
-            names::Order::Equal => return true,
-            _ => {}
+        if compare(run, words, kind, i, k).is_eq() {
+            return true;
         }
     }
     false
