@@ -1,13 +1,11 @@
 -- Laws of the fields in their order: as many as names, field j has name j of the list, and it is the one pair of that name. Assumes nothing.
-use native.Mathlib.Decide.{ℕ_discrete}
-use Rattle.rules.proofs.Prelude.{◌≡◌, refl, sym, ap, ◌∙◌, List, [], ◌∷◌, ℕ, zero, suc, ◌+◌, ◌≤◌, ◌<◌, dec_lt, arith, length, get_or}
+use Rattle.rules.proofs.Prelude.{◌≡◌, refl, sym, ap, ◌∙◌, List, [], ◌∷◌, ℕ, zero, suc, ◌<◌, dec_lt, arith, length, get_or}
 use Rattle.sets.specs.Sets.{Distinct, collect}
 use Rattle.sets.proofs.Laws.{in_collect, at_in}
 use Rattle.sets.proofs.Distinct.{all_new}
 use Rattle.source.specs.Pairs.{pairs, id, child}
 use Rattle.sort.specs.Steps.{labels}
 use Rattle.pick.proofs.Laws.{labels_at}
-use Rattle.lay.specs.Items.{numbers_for}
 use Rattle.lay.proofs.Items.{back, number_is, numbers_count, numbers_at, labels_count}
 use Rattle.pairs.specs.Checks.{pair_name}
 use Rattle.builder.specs.Bytes.{fields, ids_of, children_of}

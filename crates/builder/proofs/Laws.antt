@@ -3,7 +3,7 @@ use lib.ListN.{drop_of_length-le}
 use lib.Seq.{length-sets, drop-cons}
 use Rattle.std.specs.Prelude.{Option}
 use Rattle.std.specs.Borrow.{Bor}
-use Rattle.rules.proofs.Prelude.{◌≡◌, refl, sym, ap, ◌∙◌, Bool, true, false, cond, List, [], ◌∷◌, ◌++◌, ℕ, ◌+◌, ◌-◌, ◌*◌, ◌≤◌, ◌<◌, add-one, dec_lt, arith}
+use Rattle.rules.proofs.Prelude.{◌≡◌, refl, sym, ap, ◌∙◌, Bool, List, ◌++◌, ℕ, ◌+◌, ◌-◌, ◌*◌, ◌≤◌, ◌<◌, add-one, dec_lt, arith}
 use Rattle.rules.proofs.Prelude.{mul-le-mul_right, lt-ltb, le-ltb, length, drop, get_or, set, sets, length-append}
 use Rattle.width.specs.Width.{bytes_of}
 use Rattle.width.proofs.Laws.{bytes_length}
