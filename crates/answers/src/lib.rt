@@ -1,7 +1,12 @@
 // The six numbers of a strip, as programs have them.
 #![tactic(auto)]
 
-use print::say;
+ghost use Rattle.std.specs.Prelude.{◌≡◌, ◌≤◌, length};
+ghost use Rattle.strip.specs.Shapes.{strip_bytes};
+ghost use Rattle.strip.specs.Reading.{words_in};
+ghost use Rattle.answers.specs.Numbers.{numbers_of};
+
+use std::fmt;
 use std::io;
 
 #[derive(Clone, Copy)]
@@ -14,12 +19,37 @@ pub struct Answer {
     pub place: usize,
 }
 
-// A space between two. What it writes goes to standard output, and promises safety only.
+// What a call left in its strip.
+pub fn read(strip: &[u8]) -> Answer
+    requires { strip_bytes ≤ length strip.now }
+    ensures { numbers_of result ≡ words_in strip.now }
+{
+    Answer {
+        code: width::unpack_u32(strip, 0, 4),
+        number: width::unpack_u32(strip, 4, 4),
+        id: width::unpack_u32(strip, 8, 4),
+        start: width::unpack_u32(strip, 12, 4),
+        end: width::unpack_u32(strip, 16, 4),
+        place: width::unpack_u32(strip, 20, 4),
+    }
+}
+
+// A space between two.
+impl fmt::Display for Answer {
+    fn fmt<W: fmt::Write>(&self, f: &mut fmt::Formatter<W>) -> fmt::Result {
+        let Answer {
+            code,
+            number,
+            id,
+            start,
+            end,
+            place,
+        } = *self;
+        write!(f, "{code} {number} {id} {start} {end} {place}")
+    }
+}
+
+// To standard output; it promises safety only.
 pub fn write(rt: &impl Print, a: Answer) -> io::Result<()> {
-    say(rt, b"", a.code)?;
-    say(rt, b" ", a.number)?;
-    say(rt, b" ", a.id)?;
-    say(rt, b" ", a.start)?;
-    say(rt, b" ", a.end)?;
-    say(rt, b" ", a.place)
+    print!(rt; "{a}")
 }

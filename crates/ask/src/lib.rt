@@ -2,29 +2,12 @@
 // Those that fill room, too, are in `ask_into`.
 #![tactic(auto)]
 
-ghost use Rattle.std.specs.Prelude.{◌≡◌, ◌≤◌, length};
-ghost use Rattle.strip.specs.Shapes.{strip_bytes};
+ghost use Rattle.std.specs.Prelude.{◌≡◌};
 ghost use Rattle.lichenhusk.specs.Strip.{lookup_words, layer_words, verdict_words, name_at_words, value_words, tree_words};
-ghost use Rattle.host.specs.Host.{words_in};
 ghost use Rattle.answers.specs.Numbers.{numbers_of};
 
-use answers::Answer;
+use answers::{Answer, read};
 use strip::STRIP;
-
-// What a call left in its strip.
-pub fn read(strip: &[u8]) -> Answer
-    requires { strip_bytes ≤ length strip.now }
-    ensures { numbers_of result ≡ words_in strip.now }
-{
-    Answer {
-        code: width::unpack_u32(strip, 0, 4),
-        number: width::unpack_u32(strip, 4, 4),
-        id: width::unpack_u32(strip, 8, 4),
-        start: width::unpack_u32(strip, 12, 4),
-        end: width::unpack_u32(strip, 16, 4),
-        place: width::unpack_u32(strip, 20, 4),
-    }
-}
 
 pub fn dictionary(dict: &[u8]) -> Answer
     ensures { numbers_of result ≡ verdict_words dict.now }

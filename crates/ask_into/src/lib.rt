@@ -10,8 +10,7 @@ ghost use Rattle.write_object.specs.Writing.{room_after as object_after};
 ghost use Rattle.lichenhusk.specs.Strip.{all_words, list_words, path_words, write_words, write_object_words};
 ghost use Rattle.answers.specs.Numbers.{numbers_of};
 
-use answers::Answer;
-use ask::read;
+use answers::{Answer, read};
 use strip::STRIP;
 
 // The words for the steps of any path of as many bytes as a program has room for: three a step, and a step for every two bytes.

@@ -6,7 +6,7 @@ use Rattle.pieces.specs.Feed.{store_after}
 use Rattle.strip.specs.Shapes.{strip_bytes}
 use Rattle.lichenhusk.specs.Strip.{code_in, wants_more, held_in, feed_words}
 use Rattle.lichenhusk.specs.Promises.{FeedPromise}
-use Rattle.host.specs.Host.{words_in}
+use Rattle.strip.specs.Reading.{words_in}
 use Rattle.host.proofs.Pieces.{feed_settled, feed_reads, feed_stores}
 use Rattle.ask_pieces.specs.Fed.{words_after, store_left}
 

@@ -3,7 +3,7 @@ use Rattle.std.specs.Prelude.{cond, List, ℕ}
 use Rattle.pieces.specs.declared.State.TheVariants.{More}
 use Rattle.pieces.specs.Feed.{store_after}
 use Rattle.lichenhusk.specs.Strip.{wants_more, held_in, feed_words}
-use Rattle.host.specs.Host.{words_in}
+use Rattle.strip.specs.Reading.{words_in}
 
 abbrev pub words_after : (store piece strip : List ℕ) → List ℕ
 words_after store piece strip = cond (wants_more strip) (feed_words store piece strip) (words_in strip)

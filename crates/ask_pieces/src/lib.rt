@@ -2,13 +2,12 @@
 #![tactic(auto)]
 
 ghost use Rattle.std.specs.Prelude.{◌≡◌};
-ghost use Rattle.host.specs.Host.{words_in};
+ghost use Rattle.strip.specs.Reading.{words_in};
 ghost use Rattle.answers.specs.Numbers.{numbers_of};
 ghost use Rattle.lichenhusk.specs.Strip.{begin_words};
 ghost use Rattle.ask_pieces.specs.Fed.{words_after, store_left};
 
-use answers::Answer;
-use ask::read;
+use answers::{Answer, read};
 use strip::STRIP;
 
 // The code of a state that wants more: its number is how many bytes are held, its end how many are wanted.

@@ -2,7 +2,7 @@
 // to a writer that the caller names.
 #![tactic(auto)]
 
-ghost use Rattle.std.specs.Prelude.{◌≡◌, ◌≤◌, ◌<◌, length, IfOk};
+ghost use Rattle.std.specs.Prelude.{◌≡◌, ◌≤◌, length, IfOk, IfSome};
 ghost use Rattle.dictionary.specs.declared.Head.TheVariants as Head;
 ghost use Rattle.metadata.specs.Steps.{CheckedOf};
 ghost use Rattle.write_object.specs.Writing.{room_after as object_after};
@@ -35,34 +35,34 @@ fn assemble(dict: &[u8], bytes: &[u8], pairs: &[u32], out: &mut [u8]) -> Answer
     ask_into::write_object(dict, bytes, pairs, &mut order, &mut spare, out)
 }
 
-// Of the lines of a text, and how many bytes it has: 0 where there is none, and why goes to `to`.
+// Of the lines of a text, and how many bytes it has; where there is none, why goes to `to`.
 fn of_lines(
     dict: &[u8],
     h: Header,
     text: &[u8],
     to: &mut impl Write,
     out: &mut [u8],
-) -> io::Result<usize>
+) -> io::Result<Option<usize>>
     requires checked_of { CheckedOf dict.now (Head.Good h) }
     requires text_len_bound { length text.now ≤ ROOM }
-    ensures assembled { IfOk result (λ len. 0 < len → Assembled dict.now text.now out.old len out.new) }
-    ensures upper_bound { IfOk result (λ len. len ≤ length out.new) }
+    ensures assembled { IfOk result (λ made. IfSome made (λ len. Assembled dict.now text.now out.old len out.new)) }
+    ensures upper_bound { IfOk result (λ made. IfSome made (λ len. len ≤ length out.new)) }
 {
     let mut bytes = room::bytes();
     let mut words = word_room();
     let pairs = pairing::gather(text, dict, h, &mut bytes, &mut words);
     if pairs.fault != 0 {
         unwritten::pair(to, pairs.line, pairs.fault)?;
-        return Ok(0);
+        return Ok(None);
     }
     let n = pairs.len;
     let k = pairs.count;
     let a = assemble(dict, &bytes[0..n], &words[0..k], out);
     if a.code != 0 {
         unwritten::object(to, a.code, a.place, out.len())?;
-        return Ok(0);
+        return Ok(None);
     }
-    Ok(a.end)
+    Ok(Some(a.end))
 }
 
 // Of what is read from `input`.
@@ -72,14 +72,14 @@ fn of_input(
     input: &mut impl Read,
     to: &mut impl Write,
     out: &mut [u8],
-) -> io::Result<usize>
+) -> io::Result<Option<usize>>
     requires { CheckedOf dict.now (Head.Good h) }
-    ensures { IfOk result (λ len. len ≤ length out.new) }
+    ensures { IfOk result (λ made. IfSome made (λ len. len ≤ length out.new)) }
 {
     let mut lent = [0u8; LENT];
     let text = files::input(input, to, &mut lent)?;
     if !text.good {
-        return Ok(0);
+        return Ok(None);
     }
     let n = text.len;
     of_lines(dict, h, &lent[0..n], to, out)
@@ -91,15 +91,15 @@ pub fn from_input(
     input: &mut impl Read,
     to: &mut impl Write,
     out: &mut [u8],
-) -> io::Result<usize>
-    ensures { IfOk result (λ len. len ≤ length out.new) }
+) -> io::Result<Option<usize>>
+    ensures { IfOk result (λ made. IfSome made (λ len. len ≤ length out.new)) }
 {
     let head = metadata::checked(dict);
     match head {
         dictionary::Head::Refused(_) => {
             let a = ask::dictionary(dict);
             unwritten::object(to, a.code, a.place, out.len())?;
-            Ok(0)
+            Ok(None)
         }
         dictionary::Head::Good(h) => of_input(dict, h, input, to, out),
     }

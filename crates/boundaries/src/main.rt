@@ -6,9 +6,9 @@
 // number, taken apart, is its bytes. The mark is a digit, the length of the longest text; or a letter, `a` for 0, where it is cut there.
 #![tactic(auto)]
 
-ghost use Rattle.std.specs.Prelude.{◌≤◌, ◌<◌, length};
+ghost use Rattle.std.specs.Prelude.{◌≤◌, ◌<◌, length, IfSome};
 
-use print::{say, tell, write_hex};
+use print::{tell, write_hex};
 use std::io;
 use std::io::Read;
 
@@ -39,13 +39,14 @@ const LIST: usize = CASES + CASES / 100 + 1;
 struct Case {
     bytes: [u8; 4],
     len: usize,
+    ghost within: { len ≤ length bytes },
 }
 
-#[derive(Drop)]
+// How many cases differ, and the first of them.
+#[derive(Clone, Copy)]
 struct Tally {
-    compared: usize,
     differ: usize,
-    first: usize,
+    first: Option<usize>,
 }
 
 // The boundary byte that the last digit of `n` stands for.
@@ -88,18 +89,14 @@ fn long_lead(n: usize) -> u8 {
     (0xF0 + n % 5) as u8
 }
 
-fn of_three(a: u8, b: u8, c: u8) -> Case
-    ensures { result.len ≤ length result.bytes }
-{
+fn of_three(a: u8, b: u8, c: u8) -> Case {
     Case {
         bytes: [a, b, c, 0],
         len: 3,
     }
 }
 
-fn of_four(a: u8, b: u8, c: u8, d: u8) -> Case
-    ensures { result.len ≤ length result.bytes }
-{
+fn of_four(a: u8, b: u8, c: u8, d: u8) -> Case {
     Case {
         bytes: [a, b, c, d],
         len: 4,
@@ -107,9 +104,7 @@ fn of_four(a: u8, b: u8, c: u8, d: u8) -> Case
 }
 
 // The beginnings of 2 bytes that are not alone, and those of 3.
-fn beginning(number: usize) -> Case
-    ensures { result.len ≤ length result.bytes }
-{
+fn beginning(number: usize) -> Case {
     if number < UNFIT_PAIRS {
         return of_three(lead(number / 128), tail(number / 2), unfit(number));
     }
@@ -127,9 +122,7 @@ fn beginning(number: usize) -> Case
 }
 
 // The case of a number below CASES.
-fn case_of(number: usize) -> Case
-    ensures { result.len ≤ length result.bytes }
-{
+fn case_of(number: usize) -> Case {
     if number < ONES {
         return Case {
             bytes: [any(number), 0, 0, 0],
@@ -161,18 +154,13 @@ fn case_of(number: usize) -> Case
 
 // The mark of a place, and one that the list does not have for a place that no case has.
 fn mark(marks: &[u8], place: usize) -> u8 {
-    if marks.len() <= place {
-        return b'?';
-    }
-    marks[place]
+    marks.get(place).copied().unwrap_or(b'?')
 }
 
 // The mark of what utf8::check answers to a case.
 fn answer(number: usize) -> u8 {
-    let case = case_of(number);
-    let bytes = case.bytes;
-    let len = case.len;
-    let verdict = utf8::check(&bytes[0..len]);
+    let Case { bytes, len } = case_of(number);
+    let verdict = utf8::check(&bytes[..len]);
     match verdict {
         utf8::Verdict::Whole => mark(b"01234", len),
         utf8::Verdict::Cut(p) => mark(b"abcd", p),
@@ -184,67 +172,34 @@ fn answer(number: usize) -> u8 {
 fn listed(list: &[u8], number: usize) -> u8
     requires { number < 225224 }
 {
-    let at = number + number / 100;
-    if list.len() <= at {
-        return b' ';
-    }
-    list[at]
-}
-
-// 1 where a case differs, else 0.
-fn differs(list: &[u8], number: usize) -> usize
-    requires { number < 225224 }
-    ensures { result ≤ 1 }
-{
-    if answer(number) == listed(list, number) {
-        0
-    } else {
-        1
-    }
-}
-
-// The case to report: the one at hand, as long as none before it differs.
-fn reported(differ: usize, first: usize, number: usize) -> usize
-    requires { (first < 225224) × (number < 225224) }
-    ensures { result < 225224 }
-{
-    if differ == 0 { number } else { first }
+    list.get(number + number / 100).copied().unwrap_or(b' ')
 }
 
 // Compares every case.
 fn run(list: &[u8]) -> Tally
-    ensures { result.first < 225224 }
+    ensures { IfSome result.first (λ number. number < 225224) }
 {
-    let mut number = 0;
     let mut differ = 0;
-    let mut first = 0;
-    while number < CASES {
-        first = reported(differ, first, number);
-        differ += differs(list, number);
-        number += 1;
+    let mut first = None;
+    for number in 0..CASES {
+        if answer(number) != listed(list, number) {
+            differ += 1;
+            first = first.or(Some(number));
+        }
     }
-    Tally {
-        compared: number,
-        differ,
-        first,
-    }
+    Tally { differ, first }
 }
 
 fn report(rt: &impl Print, list: &[u8], t: Tally) -> io::Result<()>
-    requires { t.first < 225224 }
+    requires { IfSome t.first (λ number. number < 225224) }
 {
-    say(rt, b"", t.compared)?;
-    say(rt, b" cases compared, ", t.differ)?;
-    tell(rt, b" differ\n")?;
-    if t.differ == 0 {
+    println!(rt; "{CASES} cases compared, {} differ", t.differ)?;
+    let Some(number) = t.first else {
         return Ok(());
-    }
-    let number = t.first;
-    let case = case_of(number);
-    let bytes = case.bytes;
-    let len = case.len;
+    };
+    let Case { bytes, len } = case_of(number);
     tell(rt, b"the first is")?;
-    write_hex(rt, &bytes[0..len])?;
+    write_hex(rt, &bytes[..len])?;
     tell(rt, b" with ")?;
     tell(rt, &[answer(number)])?;
     tell(rt, b" found and ")?;
@@ -258,8 +213,7 @@ fn compare(rt: &impl Print, file: &mut impl Read) -> io::Result<()> {
     let mut text = [0u8; 262144];
     let n = files::read(file, &mut text)?;
     if n != LIST {
-        say(rt, b"", n)?;
-        return tell(rt, b" bytes are not a whole list\n");
+        return println!(rt; "{n} bytes are not a whole list");
     }
     let list = &text[0..n];
     report(rt, list, run(list))

@@ -5,7 +5,6 @@ mod batch;
 
 use arguments::argument;
 use files::LENT;
-use operands::which;
 use print::{room, tell, tell_to, write_hex};
 use std::env::Env;
 use std::io;
@@ -86,10 +85,9 @@ fn usage_of_input(rt: &impl Print) -> io::Result<()> {
 
 // The dictionary of a file; `-` is standard input, of which no piece is read after the one that settles the verdict.
 fn check(rt: &(impl Files + Input + Print), path: &[u8]) -> io::Result<()> {
-    if check::same(path, b"-") {
-        received::check(rt, &mut rt.reader())
-    } else {
-        check_file(rt, path)
+    match path {
+        b"-" => received::check(rt, &mut rt.reader()),
+        _ => check_file(rt, path),
     }
 }
 
@@ -121,16 +119,6 @@ fn name(rt: &(impl Files + Print), path: &[u8], entry: &[u8]) -> io::Result<()> 
     }
 }
 
-// What is asked of a dictionary and an object.
-#[derive(Drop)]
-enum Wish {
-    Check,
-    List,
-    Find,
-    Get,
-    Tree,
-}
-
 // One name's answer stands alone; of several, each comes after its name.
 fn find_in(
     rt: &impl Print,
@@ -146,31 +134,15 @@ fn find_in(
     }
 }
 
-fn answer(
-    rt: &impl Print,
-    wish: Wish,
-    dict: &[u8],
-    object: &[u8],
-    names: &[u8],
-    ends: &[u32],
-) -> io::Result<()> {
-    match wish {
-        Wish::Check => described::check_object(rt, dict, object),
-        Wish::List => described::list(rt, dict, object),
-        Wish::Find => find_in(rt, dict, object, names, ends),
-        Wish::Get => reached::get(rt, dict, object, names),
-        Wish::Tree => sentences::check_tree(rt, dict, object),
-    }
-}
-
-fn with_both(
+// The bytes of two files, to what is asked of them.
+fn with_both<F: FnOnce(&[u8], &[u8]) -> io::Result<()>>(
     rt: &(impl Files + Print),
-    wish: Wish,
     path: &[u8],
     object_path: &[u8],
-    names: &[u8],
-    ends: &[u32],
-) -> io::Result<()> {
+    ask: F,
+) -> io::Result<()>
+    requires { F.IsAlwaysCallable ask }
+{
     let mut dict_room = [0u8; LENT];
     let dict = files::load(rt, path, &mut dict_room)?;
     if !dict.good {
@@ -183,7 +155,7 @@ fn with_both(
     }
     let n = dict.len;
     let m = object.len;
-    answer(rt, wish, &dict_room[0..n], &object_room[0..m], names, ends)
+    ask(&dict_room[0..n], &object_room[0..m])
 }
 
 // The names of a run of bytes, `ends` where each ends, in two files.
@@ -197,7 +169,9 @@ pub fn find(
     if 64 < ends.len() {
         return tell(rt, b"more than 64 names\n");
     }
-    with_both(rt, Wish::Find, path, object_path, names, ends)
+    with_both(rt, path, object_path, |dict, object| {
+        find_in(rt, dict, object, names, ends)
+    })
 }
 
 // What stands at a path of steps, in two files.
@@ -207,22 +181,23 @@ pub fn get(
     value_path: &[u8],
     steps: &[u8],
 ) -> io::Result<()> {
-    with_both(rt, Wish::Get, path, value_path, steps, &[0; 0])
+    with_both(rt, path, value_path, |dict, value| {
+        reached::get(rt, dict, value, steps)
+    })
 }
 
 // What is written is all that goes to standard output.
 fn send(rt: &impl Print, errors: &mut impl Write, bytes: &[u8], or_else: &[u8]) -> io::Result<()> {
-    match tell(rt, bytes) {
-        Ok(()) => Ok(()),
-        Err(_) => tell_to(errors, or_else),
-    }
+    tell(rt, bytes).or_else(|_| tell_to(errors, or_else))
 }
 
 // Why nothing is written goes to standard error, `errors`.
 fn write_dictionary(rt: &(impl Input + Print), errors: &mut impl Write) -> io::Result<()> {
     let mut room = room::bytes();
-    let n = composed::from_input(&mut rt.reader(), errors, &mut room)?;
-    send(rt, errors, &room[0..n], b"cannot write the dictionary\n")
+    match composed::from_input(&mut rt.reader(), errors, &mut room)? {
+        Some(n) => send(rt, errors, &room[0..n], b"cannot write the dictionary\n"),
+        None => Ok(()),
+    }
 }
 
 // The object of lines over the dictionary of a file.
@@ -238,43 +213,13 @@ fn write_object(
     }
     let n = dict.len;
     let mut room = room::bytes();
-    let m = assembled::from_input(&lent[0..n], &mut rt.reader(), errors, &mut room)?;
-    send(rt, errors, &room[0..m], b"cannot write the object\n")
-}
-
-// The commands of two words, of three and of four, by the number of the verb; `variant` is among the words.
-fn of_input(rt: &(impl Input + Print), errors: &mut impl Write, kind: usize) -> io::Result<()> {
-    match kind {
-        1 => batch::run(rt),
-        2 => write_dictionary(rt, errors),
-        _ => usage(rt),
+    match assembled::from_input(&lent[0..n], &mut rt.reader(), errors, &mut room)? {
+        Some(m) => send(rt, errors, &room[0..m], b"cannot write the object\n"),
+        None => Ok(()),
     }
 }
 
-fn of_file(
-    rt: &(impl Files + Input + Print),
-    errors: &mut impl Write,
-    kind: usize,
-    path: &[u8],
-) -> io::Result<()> {
-    match kind {
-        3 => check(rt, path),
-        7 => write_object(rt, errors, path),
-        _ => usage(rt),
-    }
-}
-
-fn of_files(rt: &(impl Files + Print), kind: usize, one: &[u8], two: &[u8]) -> io::Result<()> {
-    match kind {
-        3 => with_both(rt, Wish::Check, one, two, b"", &[0; 0]),
-        4 => name(rt, one, two),
-        5 => with_both(rt, Wish::List, one, two, b"", &[0; 0]),
-        6 => with_both(rt, Wish::Tree, one, two, b"", &[0; 0]),
-        _ => usage(rt),
-    }
-}
-
-// A command of `count` words; the words that are not there are empty. Those of more are `find` and `get`.
+// A command of `count` words, `variant` among them; the words that are not there are empty. Those of more are `find` and `get`.
 pub fn act(
     rt: &(impl Files + Input + Print),
     errors: &mut impl Write,
@@ -283,15 +228,21 @@ pub fn act(
     one: &[u8],
     two: &[u8],
 ) -> io::Result<()> {
-    let kind = which(
-        b"batch write-dictionary check name list tree write-object",
-        7,
-        verb,
-    );
-    match count {
-        2 => of_input(rt, errors, kind),
-        3 => of_file(rt, errors, kind, one),
-        4 => of_files(rt, kind, one, two),
+    match (count, verb) {
+        (2, b"batch") => batch::run(rt),
+        (2, b"write-dictionary") => write_dictionary(rt, errors),
+        (3, b"check") => check(rt, one),
+        (3, b"write-object") => write_object(rt, errors, one),
+        (4, b"check") => with_both(rt, one, two, |dict, object| {
+            described::check_object(rt, dict, object)
+        }),
+        (4, b"name") => name(rt, one, two),
+        (4, b"list") => with_both(rt, one, two, |dict, object| {
+            described::list(rt, dict, object)
+        }),
+        (4, b"tree") => with_both(rt, one, two, |dict, value| {
+            sentences::check_tree(rt, dict, value)
+        }),
         _ => usage(rt),
     }
 }
@@ -333,12 +284,10 @@ fn of_words(
     one: &[u8],
     two: &[u8],
 ) -> io::Result<()> {
-    if 5 <= count && check::same(verb, b"find") {
-        find_arguments(rt, count, one, two)
-    } else if count == 5 && check::same(verb, b"get") {
-        get_argument(rt, one, two)
-    } else {
-        act(rt, errors, count, verb, one, two)
+    match (count, verb) {
+        (5.., b"find") => find_arguments(rt, count, one, two),
+        (5, b"get") => get_argument(rt, one, two),
+        _ => act(rt, errors, count, verb, one, two),
     }
 }
 

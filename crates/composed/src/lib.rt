@@ -2,7 +2,7 @@
 // names.
 #![tactic(auto)]
 
-ghost use Rattle.std.specs.Prelude.{◌≡◌, ◌≤◌, length, IfOk};
+ghost use Rattle.std.specs.Prelude.{◌≡◌, ◌≤◌, length, IfOk, IfSome};
 ghost use Rattle.write.specs.Writing.{room_after};
 ghost use Rattle.lichenhusk.specs.Strip.{write_words};
 ghost use Rattle.lay.specs.Bytes.{joined};
@@ -31,20 +31,24 @@ fn compose(text: &[u8], out: &mut [u8]) -> Answer
     ask_into::write_dictionary(&run[0..n], &ends[0..k], &mut order, &mut spare, out)
 }
 
-// Of what is read from `input`, and how many bytes it has: 0 where there is none, and why goes to `to`.
-pub fn from_input(input: &mut impl Read, to: &mut impl Write, out: &mut [u8]) -> io::Result<usize>
-    ensures { IfOk result (λ len. len ≤ length out.new) }
+// Of what is read from `input`, and how many bytes it has; where there is none, why goes to `to`.
+pub fn from_input(
+    input: &mut impl Read,
+    to: &mut impl Write,
+    out: &mut [u8],
+) -> io::Result<Option<usize>>
+    ensures { IfOk result (λ made. IfSome made (λ len. len ≤ length out.new)) }
 {
     let mut room = [0u8; LENT];
     let text = files::input(input, to, &mut room)?;
     if !text.good {
-        return Ok(0);
+        return Ok(None);
     }
     let n = text.len;
     let a = compose(&room[0..n], out);
     if a.code != 0 {
         unwritten::dictionary(to, a.code, a.place, out.len())?;
-        return Ok(0);
+        return Ok(None);
     }
-    Ok(a.end)
+    Ok(Some(a.end))
 }

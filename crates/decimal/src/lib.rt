@@ -10,10 +10,9 @@ ghost use Rattle.std.specs.Prelude.{◌≤◌};
 mod digits;
 mod shortest;
 
-use digits::{PLACES, end_of, first_of, put, raise};
-use print::{say, tell};
+use digits::{Base, PLACES, end_of, first_of, put, raise};
+use print::tell;
 use std::io;
-use width::wide;
 
 // How the bits of a float say its number: the bit that stands before the fraction, the exponent of infinity and of what is no number, and
 // the one at which a quarter of the last bit is one.
@@ -25,10 +24,10 @@ struct Shape {
 }
 
 fn write_places(rt: &impl Print, digits: &[u8; PLACES], from: usize, to: usize) -> io::Result<()>
-    requires { to ≤ 800 }
+    requires { (from ≤ to) × (to ≤ 800) }
 {
-    for i in from..to {
-        say(rt, b"", wide(digits[i]))?;
+    for digit in &digits[from..to] {
+        print!(rt; "{digit}")?;
     }
     Ok(())
 }
@@ -73,9 +72,9 @@ fn write_exponent(
     }
     let whole = PLACES - first;
     if decimals < whole {
-        say(rt, b"e", whole - 1 - decimals)
+        print!(rt; "e{}", whole - 1 - decimals)
     } else {
-        say(rt, b"e-", 1 + decimals - whole)
+        print!(rt; "e-{}", 1 + decimals - whole)
     }
 }
 
@@ -83,21 +82,17 @@ fn write_exponent(
 fn point_of(decimals: usize) -> usize
     ensures { result ≤ 800 }
 {
-    if PLACES < decimals {
-        return 0;
-    }
-    PLACES - decimals
+    PLACES.saturating_sub(decimals)
 }
 
 // A number whose last so many digits are decimals: from 0.0001 to below 10^16 plainly, any other with its exponent, as Rust's `{:?}` does.
 fn write_number(rt: &impl Print, digits: &[u8; PLACES], decimals: usize) -> io::Result<()>
     requires { decimals ≤ 2047 }
 {
-    let first = first_of(digits);
-    let end = end_of(digits);
-    if first == PLACES {
+    let Some(first) = first_of(digits) else {
         return Ok(());
-    }
+    };
+    let end = end_of(digits);
     let whole = PLACES - first;
     if decimals + 16 < whole || whole + 3 < decimals {
         write_exponent(rt, digits, first, end, decimals)
@@ -109,7 +104,7 @@ fn write_number(rt: &impl Print, digits: &[u8; PLACES], decimals: usize) -> io::
 // A power of two, or of five with as many decimals.
 #[derive(Clone, Copy)]
 struct Scale {
-    five: bool,
+    base: Base,
     by: usize,
 }
 
@@ -119,12 +114,12 @@ fn scale_of(exponent: usize, quarter: usize) -> Scale
 {
     if exponent < quarter {
         return Scale {
-            five: true,
+            base: Base::Five,
             by: quarter - exponent,
         };
     }
     Scale {
-        five: false,
+        base: Base::Two,
         by: exponent - quarter,
     }
 }
@@ -132,15 +127,15 @@ fn scale_of(exponent: usize, quarter: usize) -> Scale
 fn decimals_of(s: Scale) -> usize
     ensures { result ≤ s.by }
 {
-    if s.five {
-        return s.by;
+    match s.base {
+        Base::Two => 0,
+        Base::Five => s.by,
     }
-    0
 }
 
 fn scaled(digits: &mut [u8; PLACES], n: usize, s: Scale) {
     put(digits, n);
-    raise(digits, s.five, s.by);
+    raise(digits, s.base, s.by);
 }
 
 // How far the middle to the one below is, in quarters of the last bit.

@@ -1,16 +1,11 @@
 // The shortest decimal between two others, and of those as short the nearest to a third.
 ghost use Rattle.std.specs.Prelude.{◌≤◌};
 
-use crate::digits::{Order, PLACES, compare, first_of, keep, lift};
+use crate::digits::{PLACES, first_of, keep, lift};
 
-// Whether `a` is below `b`, or the same where that will do.
+// Whether `a` is below `b`, or the same where that will do. Places of the same number compare as numbers do.
 fn reaches(a: &[u8; PLACES], b: &[u8; PLACES], same: bool) -> bool {
-    let order = compare(a, b);
-    match order {
-        Order::Below => true,
-        Order::Same => same,
-        Order::Above => false,
-    }
+    if same { a <= b } else { a < b }
 }
 
 // Whether the first `count` digits are nearer with one more at the last; of two that are as near it is that one, as in Rust.
@@ -59,10 +54,8 @@ pub fn find(
     closed: bool,
     out: &mut [u8; PLACES],
 ) {
-    let mut count = first_of(exact);
-    while count < PLACES {
-        count += 1;
-        if fits(low, exact, high, closed, count, out) {
+    for before in first_of(exact).unwrap_or(PLACES)..PLACES {
+        if fits(low, exact, high, closed, before + 1, out) {
             return;
         }
     }

@@ -4,17 +4,14 @@
 ghost use Rattle.fields.specs.Steps.{Over};
 
 use answers::Answer;
-use print::{quoted, room, say, tell, wide, write_hex};
+use print::{counted, quoted, room, tell, wide, write_hex};
 use reasons::refused;
 use slices::part_of;
-use speak::counted;
 use std::io;
 
 fn accepted(rt: &impl Print, a: Answer) -> io::Result<()> {
     counted(rt, b"accepted: ", a.number, b" field", b" fields")?;
-    say(rt, b", the value region from byte ", a.start)?;
-    say(rt, b" to byte ", a.end)?;
-    tell(rt, b"\n")
+    println!(rt; ", the value region from byte {} to byte {}", a.start, a.end)
 }
 
 pub fn check_object(rt: &impl Print, dict: &[u8], object: &[u8]) -> io::Result<()> {
@@ -49,10 +46,7 @@ fn field(
         let e = name.end;
         quoted(rt, &dict[a..e])?;
     }
-    say(rt, b": id ", id)?;
-    say(rt, b", start ", start)?;
-    say(rt, b", span ", span)?;
-    tell(rt, b":")?;
+    print!(rt; ": id {id}, start {start}, span {span}:")?;
     let child = bytes_at(object, start, span);
     write_hex(rt, child)?;
     speak::value(rt, child)?;
@@ -65,18 +59,9 @@ fn fields(rt: &impl Print, dict: &[u8], object: &[u8], words: &[u32]) -> io::Res
     match head {
         dictionary::Head::Refused(_) => Ok(()),
         dictionary::Head::Good(h) => {
-            let mut at: usize = 0;
-            while 3 <= words.len() - at {
-                field(
-                    rt,
-                    dict,
-                    h,
-                    object,
-                    wide(words[at]),
-                    wide(words[at + 1]),
-                    wide(words[at + 2]),
-                )?;
-                at += 3;
+            let (rows, _) = words.as_chunks::<3>();
+            for [id, start, span] in rows {
+                field(rt, dict, h, object, wide(*id), wide(*start), wide(*span))?;
             }
             Ok(())
         }

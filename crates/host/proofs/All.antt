@@ -4,27 +4,29 @@ use Rattle.rules.proofs.Prelude.{◌≡◌, refl, ap, ◌∙◌, ◌↔◌, List
 use lib.Seq.{drop_at}
 use Rattle.rules.proofs.Rows.{rows_length}
 use Rattle.object.proofs.Refuses.{is_due}
-use Rattle.object.proofs.Fits.{checks_code, layer_small}
+use Rattle.object.proofs.Fits.{checks_code}
 use Rattle.many.specs.Many.{row, lookups, rows_after}
 use Rattle.many.proofs.Rows.{row_five}
 use Rattle.many.proofs.Means as many
 use Rattle.many.proofs.AllRows as rows
 use Rattle.strip.specs.Shapes.{words_of, layer_shape, strip_bytes}
+use Rattle.lichenhusk.proofs.Carries.{all_fits}
 use Rattle.lichenhusk.specs.Strip.{all_words, filled_after}
 use Rattle.lichenhusk.specs.Promises.{AllPromise}
 use Rattle.host.specs.Host.{words_in, Tells, AllSays, FillsAll}
 use Rattle.host.specs.Host.AllSays.{answered, bad_end, no_room, refused}
-use Rattle.host.proofs.Carries.{Said, tells}
+use Rattle.host.proofs.Carries.{Fits, Said, tells}
 use Rattle.host.proofs.Exactly.{exactly}
 
 module _ (d o names ends words : List ℕ) (few : length ends ≤ 4294967296) where
   pub all_said : Said (AllSays d o names ends words) (all_words d o names ends words)
   all_said =
-      many.by_answer d o names ends words (λ x. Said (AllSays d o names ends words) (words_of layer_shape x))
-      (λ n v e a. let s = layer_small d o a.accepted in (omega arith, (λ w. omega arith), answered a))
-      (λ k b. (omega (arith, b.is_name), (λ w. omega arith), bad_end b))
-      (λ n. (omega arith, (λ w. omega arith), no_room n))
-      (λ c p r. let s = checks_code d o (is_due d o r.due) in (omega arith, (λ w. omega arith), refused s.0 s.1 r))
+      many.by_answer d o names ends words (λ x. Fits (words_of layer_shape x) → Said (AllSays d o names ends words) (words_of layer_shape x))
+      (λ n v e a f. (f, (λ w. omega arith), answered a))
+      (λ k b f. (f, (λ w. omega arith), bad_end b))
+      (λ n f. (f, (λ w. omega arith), no_room n))
+      (λ c p r f. let s = checks_code d o (is_due d o r.due) in (f, (λ w. omega arith), refused s.0 s.1 r))
+      (all_fits d o names ends words few)
 
   module _ (strip : List ℕ) (code : ℕ) (after words_after : List ℕ) (promised : AllPromise d o names ends words strip code after words_after) where
     -- THE STRIP

@@ -17,7 +17,7 @@ use Rattle.lengths.specs.Lengths.{own_length}
 use Rattle.layer.specs.Object as object
 use Rattle.object.proofs.Means.{checks_mean}
 use Rattle.object.proofs.Refuses.{is_due}
-use Rattle.object.proofs.Fits.{checks_code, layer_small, child_small}
+use Rattle.object.proofs.Fits.{checks_code}
 use Rattle.lookup.specs.ByName.{lookup as lookup-of}
 use Rattle.lookup.specs.Meaning.{Found, Absent, Spells}
 use Rattle.lookup.specs.Meaning.Spells.{spells}
@@ -28,6 +28,7 @@ use Rattle.listing.specs.Meaning.{Listed}
 use Rattle.listing.proofs.Listed.{id_word, start_word, span_word, own_length_law, span_some, span_ends}
 use Rattle.listing.proofs.Lists as listing
 use Rattle.strip.specs.Shapes.{words_of, lookup_shape, layer_shape, dictionary_shape, name_shape, strip_bytes}
+use Rattle.lichenhusk.proofs.Carries.{dictionary_fits, name_fits, layer_fits, lookup_fits, list_fits}
 use Rattle.lichenhusk.specs.Strip.{lookup_words, layer_words, list_words, verdict_words, name_at_words, filled_after}
 use Rattle.lichenhusk.specs.Promises.{DictionaryPromise, NamePromise, LayerPromise, LookupPromise, ListPromise, EmptyPromise}
 use Rattle.host.specs.Host.{word, Tells, DictionarySays, NameSays, LayerSays, LookupSays, Spelled, ListSays, Fills, EmptyTells}
@@ -44,41 +45,44 @@ module _ (d : List ℕ) where
   pub dictionary_said : Said (DictionarySays d) (verdict_words d)
   unfolding dictionary.verdict_within
   dictionary_said =
-      by_meaning (λ x. Said (DictionarySays d) (words_of dictionary_shape x)) _ (dictionary-means.checks_mean d)
-      (λ g. let s = dictionary-fits.accepted_small d g in (omega arith, (λ w. omega arith), accepted g))
-      (λ c p due. let s = dictionary-fits.checks_code d (dictionary-refuses.is_due d due) in (omega arith, (λ w. omega arith), dictionary-refused s.0 s.1 due))
+      by_meaning (λ x. Fits (words_of dictionary_shape x) → Said (DictionarySays d) (words_of dictionary_shape x)) _ (dictionary-means.checks_mean d)
+      (λ g f. (f, (λ w. omega arith), accepted g))
+      (λ c p due f. let s = dictionary-fits.checks_code d (dictionary-refuses.is_due d due) in (f, (λ w. omega arith), dictionary-refused s.0 s.1 due))
+      (dictionary_fits d)
 
   pub name_said : (i : ℕ) → Said (NameSays d i) (name_at_words d i)
   name_said i =
-      dictionary-names.by_answer d i (λ x. Said (NameSays d i) (words_of name_shape x))
-      (λ a e n. let s = dictionary-fits.name_small d i n.accepted n.is_entry in (omega arith, (λ w. omega arith), named n))
-      (λ n. (omega arith, (λ w. omega arith), no_entry n))
-      (λ c p due. let s = dictionary-fits.checks_code d (dictionary-refuses.is_due d due) in (omega arith, (λ w. omega arith), name-refused s.0 s.1 due))
+      dictionary-names.by_answer d i (λ x. Fits (words_of name_shape x) → Said (NameSays d i) (words_of name_shape x))
+      (λ a e n f. (f, (λ w. omega arith), named n))
+      (λ n f. (f, (λ w. omega arith), no_entry n))
+      (λ c p due f. let s = dictionary-fits.checks_code d (dictionary-refuses.is_due d due) in (f, (λ w. omega arith), name-refused s.0 s.1 due))
+      (name_fits d i)
 
 module _ (d o : List ℕ) where
   pub layer_said : Said (LayerSays d o) (layer_words d o)
   unfolding object.verdict_within
   layer_said =
-      by_meaning (λ x. Said (LayerSays d o) (words_of layer_shape x)) _ (checks_mean d o)
-      (λ g. let s = layer_small d o g in (omega arith, (λ w. omega arith), layer-accepted g))
-      (λ c p due. let s = checks_code d o (is_due d o due) in (omega arith, (λ w. omega arith), layer-refused s.0 s.1 due))
+      by_meaning (λ x. Fits (words_of layer_shape x) → Said (LayerSays d o) (words_of layer_shape x)) _ (checks_mean d o)
+      (λ g f. (f, (λ w. omega arith), layer-accepted g))
+      (λ c p due f. let s = checks_code d o (is_due d o due) in (f, (λ w. omega arith), layer-refused s.0 s.1 due))
+      (layer_fits d o)
 
   pub lookup_said : (q : List ℕ) → Said (LookupSays d o q) (lookup_words d o q)
   lookup_said q =
-      lookup.by_answer d o q (λ x. Said (LookupSays d o q) (words_of lookup_shape x))
-      (λ k i a e f. let s = layer_small d o f.accepted in
-      let t = child_small d o k f.accepted f.is_field in
-      let u = dictionary-fits.accepted_small d f.accepted.named.headed.placed.counted.typed.sized.over in (omega arith, (λ w. omega arith), found f))
-      (λ a. (omega arith, (λ w. omega arith), absent a))
-      (λ c p due. let s = checks_code d o (is_due d o due) in (omega arith, (λ w. omega arith), lookup-refused s.0 s.1 due))
+      lookup.by_answer d o q (λ x. Fits (words_of lookup_shape x) → Said (LookupSays d o q) (words_of lookup_shape x))
+      (λ k i a e there f. (f, (λ w. omega arith), found there))
+      (λ none f. (f, (λ w. omega arith), absent none))
+      (λ c p due f. let s = checks_code d o (is_due d o due) in (f, (λ w. omega arith), lookup-refused s.0 s.1 due))
+      (lookup_fits d o q)
 
   pub list_said : (w : List ℕ) → Said (ListSays d o w) (list_words d o w)
   list_said w =
-      listing.by_answer d o w (λ x. Said (ListSays d o w) (words_of layer_shape x))
-      (λ n v e l. let s = layer_small d o l.accepted in (omega arith, (λ w. omega arith), listed l))
-      (λ k n. let s = layer_small d o n.accepted in (omega (arith, n.field), (λ w. omega arith), no_length n))
-      (λ n. (omega arith, (λ w. omega arith), no_room n))
-      (λ c p due. let s = checks_code d o (is_due d o due) in (omega arith, (λ w. omega arith), list_refused s.0 s.1 due))
+      listing.by_answer d o w (λ x. Fits (words_of layer_shape x) → Said (ListSays d o w) (words_of layer_shape x))
+      (λ n v e l f. (f, (λ z. omega arith), listed l))
+      (λ k n f. (f, (λ z. omega arith), no_length n))
+      (λ n f. (f, (λ z. omega arith), no_room n))
+      (λ c p due f. let s = checks_code d o (is_due d o due) in (f, (λ z. omega arith), list_refused s.0 s.1 due))
+      (list_fits d o w)
 
 -- THE THEOREMS: what each call tells
 module _ (strip : List ℕ) (code : ℕ) (after : List ℕ) where

@@ -1,95 +1,82 @@
 -- What a host learns of a value: the strip's words, exactly when; that it is read exactly where it has an own length, so that each field of a
 -- listing has a value. Bytes are what a slice has: each is below 256, which is what makes the words fit. Assumes nothing.
 use Rattle.rules.proofs.Prelude.{◌≡◌, refl, sym, ap, ◌∙◌, ◌↔◌, true, List, [], ◌∷◌, ◌++◌, ℕ, ◌+◌, ◌*◌, ◌≤◌, ◌<◌, arith, le-ltb, length}
-use Rattle.rules.proofs.Prelude.{take, drop, get_or, code_of}
+use Rattle.rules.proofs.Prelude.{take, drop, get_or, Answer, code_of}
 use Rattle.width.specs.Width.{le}
-use Rattle.width.specs.Limits.{u32_max}
 use Rattle.width.proofs.Laws.{Bytes}
 use Rattle.part.specs.Part.{part}
 use Rattle.number.specs.Signed.{signed, extended}
-use Rattle.number.proofs.Means.{extended_small}
-use Rattle.encoding.specs.declared.Header.{Header}
 use Rattle.lengths.specs.declared.Length.TheVariants.{Known}
 use Rattle.lengths.specs.Lengths.{is_known, own_length}
 use Rattle.lengths.proofs.Appended.{whatever_follows}
 use Rattle.value.specs.declared.Value.{Value}
 use Rattle.value.specs.Reading.{payload_start, single, double, reading}
 use Rattle.value.specs.Answers.{in_two, value_numbers}
-use Rattle.value.specs.Meaning.{Begins, OfType, Placed, Reads}
+use Rattle.value.specs.Meaning.{OfType, Placed, Reads}
 use Rattle.value.specs.Meaning.Reads.{null as r-null, is_true as r-true, is_false as r-false, int8 as r-int8, int16 as r-int16, int32 as r-int32}
 use Rattle.value.specs.Meaning.Reads.{int64 as r-int64, double as r-double, double_nan as r-double-nan, float as r-float, float_nan as r-float-nan}
 use Rattle.value.specs.Meaning.Reads.{payload as r-payload, after_length as r-after-length, short_string as r-short-string, object as r-object, list as r-list}
 use Rattle.value.specs.Meaning.Reads.{no_bytes as r-no-bytes, header_cut as r-cut, past_range as r-range, past_bytes as r-past, no_such_type as r-no-type}
 use Rattle.value.proofs.Means as means
-use Rattle.value.proofs.Floats.{rest_bytes, four, single_told, double_told}
+use Rattle.value.proofs.Floats.{single_told, double_told}
 use Rattle.value.proofs.Measured.{code_read, read_is}
 use Rattle.value.proofs.Local.{local, stays, cut}
 use Rattle.strip.specs.Shapes.{words_of, value_shape, refusal_words, strip_bytes}
+use Rattle.lichenhusk.proofs.Carries.{value_fits}
 use Rattle.lichenhusk.specs.Strip.{value_words, returned}
 use Rattle.lichenhusk.specs.Promises.{Left, ValuePromise, ListPromise}
 use Rattle.host.specs.Host.{word, words_in, Tells, IntegerOf, ValueSays}
 use Rattle.host.specs.Host.IntegerOf.{int8, int16, int32, int64}
 use Rattle.host.specs.Host.ValueSays.{null, is_true, is_false, integer, double as says-double, float as says-float, place, short_string}
 use Rattle.host.specs.Host.ValueSays.{object, list, short, no_such_type}
-use Rattle.host.proofs.Carries.{Said, first_is, tells}
+use Rattle.host.proofs.Carries.{Fits, Said, first_is, tells}
 use Rattle.host.proofs.Tells.{own_listed}
 use Rattle.host.proofs.Exactly.{exactly}
 use Rattle.host.proofs.Appended.{keeps}
 
 module _ (s : List ℕ) (bytes : Bytes s) where
-  -- EACH READING'S WORDS
+  -- EACH READING'S WORDS, which fit
 
-  -- an integer's, of w bytes
-  integer_said : {t n : ℕ} (w : ℕ) → w ≤ 8 → t < 21 → OfType s t n → IntegerOf t w
-      → Said (ValueSays s) (words_of value_shape (in_two t (extended (signed w (drop 1 s)))))
-  integer_said w few known b i = let x = extended_small w (drop 1 s) (rest_bytes s bytes 1) few in (omega arith, (λ e. omega arith), integer b i refl)
+  abbrev Told : Answer → Type 0
+  Told x = Fits (words_of value_shape x) → Said (ValueSays s) (words_of value_shape x)
 
   -- a float's, whichever case its bits are read as
-  double_said : {n : ℕ} (v : Value) → OfType s 7 n → double (le 8 (drop 1 s)) ≡ v → Said (ValueSays s) (words_of value_shape (value_numbers v))
-  double_said v b e =
-      let l = four s bytes 1 in let h = four s bytes 5 in rw (ap value_numbers (sym e) ∙ double_told s bytes) (omega arith, (λ w. omega arith), says-double b)
+  double_said : {n : ℕ} (v : Value) → OfType s 7 n → double (le 8 (drop 1 s)) ≡ v → Told (value_numbers v)
+  double_said v b e f = let told = ap value_numbers (sym e) ∙ double_told s bytes in rw told (rw told at f, (λ w. omega arith), says-double b)
 
-  float_said : {n : ℕ} (v : Value) → OfType s 14 n → single (le 4 (drop 1 s)) ≡ v → Said (ValueSays s) (words_of value_shape (value_numbers v))
-  float_said v b e =
-      let l = four s bytes 1 in rw (ap value_numbers (sym e) ∙ single_told s bytes) (omega arith, (λ w. omega arith), says-float b)
+  float_said : {n : ℕ} (v : Value) → OfType s 14 n → single (le 4 (drop 1 s)) ≡ v → Told (value_numbers v)
+  float_said v b e f = let told = ap value_numbers (sym e) ∙ single_told s bytes in rw told (rw told at f, (λ w. omega arith), says-float b)
 
   -- the start and end of bytes
-  placed_said : {t n : ℕ} (a : ℕ) → a ≤ 5 → payload_start t ≡ a → OfType s t n → Placed t → Said (ValueSays s) (0 ∷ t ∷ 0 ∷ a ∷ n ∷ 0 ∷ [])
-  unfolding u32_max
-  placed_said a near is b p =
-      let known = b.encoded.headed.known in let small = b.encoded.fits in (omega arith, (λ w. omega arith), rw is at (place b p))
-
-  begun_said : {h : Header} {n : ℕ} (kind a : ℕ) → kind < 260 → a < 2 → Begins s h n → ValueSays s (0 ∷ kind ∷ 0 ∷ a ∷ n ∷ 0 ∷ [])
-      → Said (ValueSays s) (0 ∷ kind ∷ 0 ∷ a ∷ n ∷ 0 ∷ [])
-  unfolding u32_max
-  begun_said kind a few near b says = let small = b.encoded.fits in (omega arith, (λ w. omega arith), says)
+  placed_said : {t n : ℕ} (a : ℕ) → payload_start t ≡ a → OfType s t n → Placed t → Fits (0 ∷ t ∷ 0 ∷ a ∷ n ∷ 0 ∷ []) → Said (ValueSays s) (0 ∷ t ∷ 0 ∷ a ∷ n ∷ 0 ∷ [])
+  placed_said a is b p f = (f, (λ w. omega arith), rw is at (place b p))
 
   pub value_said : Said (ValueSays s) (value_words s)
   unfolding single double payload_start
-  value_said = go (reading s) ((means.exactly_when s (reading s)).0 refl)
+  value_said = go (reading s) ((means.exactly_when s (reading s)).0 refl) (value_fits s bytes)
     where
-      go : (v : Value) → Reads s v → Said (ValueSays s) (words_of value_shape (value_numbers v))
-      go v (r-null b) = (omega arith, (λ w. omega arith), null b)
-      go v (r-true b) = (omega arith, (λ w. omega arith), is_true b)
-      go v (r-false b) = (omega arith, (λ w. omega arith), is_false b)
-      go v (r-int8 b) = integer_said 1 (omega arith) (omega arith) b int8
-      go v (r-int16 b) = integer_said 2 (omega arith) (omega arith) b int16
-      go v (r-int32 b) = integer_said 4 (omega arith) (omega arith) b int32
-      go v (r-int64 b) = integer_said 8 (omega arith) (omega arith) b int64
-      go v (r-double b e) = double_said v b (rw e)
-      go v (r-double-nan b e) = double_said v b (rw e)
-      go v (r-float b e) = float_said v b (rw e)
-      go v (r-float-nan b e) = float_said v b (rw e)
-      go v (r-payload b p e) = placed_said 1 (omega arith) (rw e) b p
-      go v (r-after-length b p e) = placed_said 5 (omega arith) (rw e) b p
-      go v (r-short-string b) = begun_said 257 1 (omega arith) (omega arith) b (short_string b)
-      go v (r-object b) = begun_said 258 0 (omega arith) (omega arith) b (object b)
-      go v (r-list b) = begun_said 259 0 (omega arith) (omega arith) b (list b)
-      go v (r-no-bytes e) = (omega arith, (λ w. omega arith), short (r-no-bytes e))
-      go v (r-cut a k) = (omega arith, (λ w. omega arith), short (r-cut a k))
-      go v (r-range a k) = (omega arith, (λ w. omega arith), short (r-range a k))
-      go v (r-past a k) = (omega arith, (λ w. omega arith), short (r-past a k))
-      go v (r-no-type a e p) = (omega arith, (λ w. omega arith), no_such_type (r-no-type a e p))
+      go : (v : Value) → Reads s v → Told (value_numbers v)
+      go v (r-null b) f = (f, (λ w. omega arith), null b)
+      go v (r-true b) f = (f, (λ w. omega arith), is_true b)
+      go v (r-false b) f = (f, (λ w. omega arith), is_false b)
+      go v (r-int8 b) f = (f, (λ w. omega arith), integer b int8 refl)
+      go v (r-int16 b) f = (f, (λ w. omega arith), integer b int16 refl)
+      go v (r-int32 b) f = (f, (λ w. omega arith), integer b int32 refl)
+      go v (r-int64 b) f = (f, (λ w. omega arith), integer b int64 refl)
+      go v (r-double b e) f = double_said v b (rw e) f
+      go v (r-double-nan b e) f = double_said v b (rw e) f
+      go v (r-float b e) f = float_said v b (rw e) f
+      go v (r-float-nan b e) f = float_said v b (rw e) f
+      go v (r-payload b p e) f = placed_said 1 (rw e) b p f
+      go v (r-after-length b p e) f = placed_said 5 (rw e) b p f
+      go v (r-short-string b) f = (f, (λ w. omega arith), short_string b)
+      go v (r-object b) f = (f, (λ w. omega arith), object b)
+      go v (r-list b) f = (f, (λ w. omega arith), list b)
+      go v (r-no-bytes e) f = (f, (λ w. omega arith), short (r-no-bytes e))
+      go v (r-cut a k) f = (f, (λ w. omega arith), short (r-cut a k))
+      go v (r-range a k) f = (f, (λ w. omega arith), short (r-range a k))
+      go v (r-past a k) f = (f, (λ w. omega arith), short (r-past a k))
+      go v (r-no-type a e p) f = (f, (λ w. omega arith), no_such_type (r-no-type a e p))
 
   -- AND ONLY THESE
   of : (v : Value) → Reads s v → value_words s ≡ words_of value_shape (value_numbers v)

@@ -1,36 +1,26 @@
 -- What a host learns from writing a dictionary: the strip's words, exactly when, the room, and what is read of it again. Of 45 the place is a
 -- name's number, which a strip carries whole where there are no more than 4,294,967,296 names. Assumes nothing.
-use Rattle.rules.proofs.Prelude.{◌≡◌, refl, sym, ap, ◌∙◌, ◌↔◌, List, [], ◌∷◌, ℕ, ◌≤◌, ◌<◌, dec_lt, arith, lt-ltb, le-ltb, length, take, get_or}
-use Rattle.dictionary.specs.Limits.{limit}
-use Rattle.fill.proofs.Laws.{size_count}
+use Rattle.rules.proofs.Prelude.{◌≡◌, refl, ap, ◌∙◌, ◌↔◌, List, [], ◌∷◌, ℕ, ◌≤◌, ◌<◌, dec_lt, arith, lt-ltb, le-ltb, length, take, get_or}
 use Rattle.fill.specs.Steps.{list_of}
 use Rattle.write.specs.Writing.{written as written_of, room_after}
-use Rattle.write.specs.Meaning as write
-use Rattle.write.specs.Meaning.Refusal.{bad_name, too_long, no_room}
 use Rattle.write.proofs.Refuses as writes
 use Rattle.write.proofs.Says.{refused_room, written_room, holds}
 use Rattle.strip.specs.Shapes.{words_of, dictionary_shape, strip_bytes}
+use Rattle.lichenhusk.proofs.Carries.{write_small as code_small, write_fits}
 use Rattle.lichenhusk.specs.Strip.{verdict_words, write_words, filled_after}
-use Rattle.lichenhusk.specs.Promises.{WritePromise, DictionaryPromise}
+use Rattle.lichenhusk.specs.Promises.{WritePromise}
 use Rattle.host.specs.Host.{word, words_in, Tells, WriteSays, FillsRoom}
 use Rattle.host.specs.Host.WriteSays.{written, refused}
-use Rattle.host.proofs.Carries.{Said, tells, carried}
+use Rattle.host.proofs.Carries.{Fits, Said, tells}
 use Rattle.host.proofs.Exactly.{exactly}
-use Rattle.host.proofs.Tells.{dictionary_said}
 
 module _ (run ends room : List ℕ) (few : length ends ≤ 4294967296) where
-  -- which numbers there are, and that their places fit
-  code_small : {c p : ℕ} → write.Refusal run ends room c p → (1 ≤ c) × (c < 47) × (c ≡ 40 → ⊥) × (p < 4294967296)
-  code_small (bad_name b) = (omega arith, omega arith, (λ z. omega arith), omega (arith, b.is_name))
-  code_small (too_long g h) = (omega arith, omega arith, (λ z. omega arith), omega arith)
-  code_small (no_room g h k) = (omega arith, omega arith, (λ z. omega arith), omega arith)
-
   write_said : Said (WriteSays run ends room) (write_words run ends room)
-  unfolding limit
   write_said =
-      writes.by_answer run ends room (λ x. Said (WriteSays run ends room) (words_of dictionary_shape x))
-      (λ n b a. (omega (arith, a.counts, a.ends_at, a.within, size_count (list_of run ends)), (λ z. omega arith), written a))
-      (λ c p r. let s = code_small r in (omega (arith, s), s.2, refused r))
+      writes.by_answer run ends room (λ x. Fits (words_of dictionary_shape x) → Said (WriteSays run ends room) (words_of dictionary_shape x))
+      (λ n b a f. (f, (λ z. omega arith), written a))
+      (λ c p r f. (f, (code_small few r).2, refused r))
+      (write_fits run ends room few)
 
   write_only : (six : List ℕ) → WriteSays run ends room six → write_words run ends room ≡ six
   write_only _ (written a) = ap (words_of dictionary_shape) ((writes.accepts run ends room _ _).1 a)
@@ -50,7 +40,7 @@ module _ (run ends room : List ℕ) (few : length ends ≤ 4294967296) where
         let end : word after 4 ≡ b = cc in
         record { filled = λ _. left ∙ written_room run ends room a ∙ rw (end, a.ends_at); kept = λ m. absurd (m refl) }
     by_case (refused r) read left =
-        record { filled = λ z. absurd (omega (arith, z, code_small r)); kept = λ _. left ∙ refused_room run ends room r }
+        record { filled = λ z. absurd (omega (arith, z, code_small few r)); kept = λ _. left ∙ refused_room run ends room r }
 
     pub write_fills : FillsRoom run ends room code after room'
     unfolding filled_after
@@ -77,7 +67,7 @@ module _ (run ends room : List ℕ) (few : length ends ≤ 4294967296) where
             let end : word after 4 ≡ b = cc in
             let held = holds run ends room a in
             rw (end, left, held.front.accepted, a.counts) (ap (λ (m : ℕ). 0 ∷ length (list_of run ends) ∷ 0 ∷ 0 ∷ m ∷ 0 ∷ []) held.size)
-        back (refused r) read e left = absurd (omega (arith, e, code_small r))
+        back (refused r) read e left = absurd (omega (arith, e, code_small few r))
 
         go : Dec (length strip < strip_bytes) → verdict_words (take (word after 4) room') ≡ words_in after
         go (yes h) = let forty = write_tells.no_strip.1 h in absurd (omega arith)

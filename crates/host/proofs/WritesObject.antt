@@ -1,42 +1,25 @@
 -- What a host learns from writing an object: the strip's words, exactly when, the room, and what is read of it again. A place is a pair's
 -- number, which a strip carries whole where there are no more than 4,294,967,296 words of pairs. Assumes nothing.
-use Rattle.rules.proofs.Prelude.{◌≡◌, refl, sym, ap, ◌∙◌, ◌↔◌, List, [], ◌∷◌, ℕ, ◌≤◌, ◌<◌, dec_lt, arith, lt-ltb, le-ltb, length, take, get_or}
-use Rattle.dictionary.specs.Limits.{limit}
-use Rattle.metadata.proofs.Fits as dictionary-fits
-use Rattle.metadata.proofs.Refuses as dictionary-refuses
+use Rattle.rules.proofs.Prelude.{◌≡◌, refl, ap, ◌∙◌, ◌↔◌, List, ℕ, ◌≤◌, ◌<◌, dec_lt, arith, lt-ltb, le-ltb, length, take, get_or}
 use Rattle.write_object.specs.Writing.{written as written_of, room_after}
-use Rattle.write_object.specs.Meaning as write
-use Rattle.write_object.specs.Meaning.Refusal.{of_dictionary, no_entry, double, bad_range, empty_child, too_long, no_room}
-use Rattle.write_object.proofs.Laws.{size_above}
 use Rattle.write_object.proofs.Refuses as writes
 use Rattle.layered.proofs.ReadBack.{holds}
 use Rattle.strip.specs.Shapes.{words_of, layer_shape, strip_bytes}
+use Rattle.lichenhusk.proofs.Carries.{write_object_small as code_small, write_object_fits}
 use Rattle.lichenhusk.specs.Strip.{layer_words, write_object_words, filled_after}
 use Rattle.lichenhusk.specs.Promises.{WriteObjectPromise}
 use Rattle.host.specs.Host.{word, words_in, Tells, WriteObjectSays, FillsObject}
 use Rattle.host.specs.Host.WriteObjectSays.{written, refused}
-use Rattle.host.proofs.Carries.{Said, tells}
+use Rattle.host.proofs.Carries.{Fits, Said, tells}
 use Rattle.host.proofs.Exactly.{exactly}
 
 module _ (d bytes pairs room : List ℕ) (few : length pairs ≤ 4294967296) where
-  -- which numbers there are, and that their places fit
-  code_small : {c p : ℕ} → write.Refusal d bytes pairs room c p → (1 ≤ c) × (c < 47) × (c ≡ 40 → ⊥) × (p < 4294967296)
-  code_small (of_dictionary r) = let s = dictionary-fits.checks_code d (dictionary-refuses.is_due d r) in (omega arith, omega arith, (λ z. omega arith), omega arith)
-  code_small (no_entry o b) = (omega arith, omega arith, (λ z. omega arith), omega (arith, b.is_pair))
-  code_small (double n b) = (omega arith, omega arith, (λ z. omega arith), omega (arith, b.inside))
-  code_small (bad_range s b) = (omega arith, omega arith, (λ z. omega arith), omega (arith, b.is_pair))
-  code_small (empty_child r b) = (omega arith, omega arith, (λ z. omega arith), omega (arith, b.is_pair))
-  code_small (too_long g h) = (omega arith, omega arith, (λ z. omega arith), omega arith)
-  code_small (no_room g h k) = (omega arith, omega arith, (λ z. omega arith), omega arith)
-
   write_said : Said (WriteObjectSays d bytes pairs room) (write_object_words d bytes pairs room)
-  unfolding limit
   write_said =
-      writes.by_answer d bytes pairs room (λ x. Said (WriteObjectSays d bytes pairs room) (words_of layer_shape x))
-      (λ n v b a.
-      let s = size_above d bytes pairs a.good.ranged.single.distinct in
-      (omega (arith, a.counts, a.starts, a.ends, a.within, s), (λ z. omega arith), written a))
-      (λ c p r. let s = code_small r in (omega (arith, s), s.2, refused r))
+      writes.by_answer d bytes pairs room (λ x. Fits (words_of layer_shape x) → Said (WriteObjectSays d bytes pairs room) (words_of layer_shape x))
+      (λ n v b a f. (f, (λ z. omega arith), written a))
+      (λ c p r f. (f, (code_small few r).2, refused r))
+      (write_object_fits d bytes pairs room few)
 
   write_only : (six : List ℕ) → WriteObjectSays d bytes pairs room six → write_object_words d bytes pairs room ≡ six
   write_only _ (written a) = ap (words_of layer_shape) ((writes.accepts d bytes pairs room _ _ _).1 a)
@@ -57,7 +40,7 @@ module _ (d bytes pairs room : List ℕ) (few : length pairs ≤ 4294967296) whe
         let end : word after 4 ≡ b = cc in
         record { filled = λ _. left ∙ writes.written_room d bytes pairs room a ∙ rw (end, a.ends); kept = λ m. absurd (m refl) }
     by_case (refused r) read left =
-        record { filled = λ z. absurd (omega (arith, z, code_small r)); kept = λ _. left ∙ writes.refused_room d bytes pairs room r }
+        record { filled = λ z. absurd (omega (arith, z, code_small few r)); kept = λ _. left ∙ writes.refused_room d bytes pairs room r }
 
     pub write_object_fills : FillsObject d bytes pairs room code after room'
     unfolding filled_after
@@ -84,7 +67,7 @@ module _ (d bytes pairs room : List ℕ) (few : length pairs ≤ 4294967296) whe
             let end : word after 4 ≡ b = cc in
             let held = holds d bytes pairs room n v b ((writes.accepts d bytes pairs room n v b).1 a) in
             rw (end, left, held.front.accepted, a.counts, a.starts, a.ends) refl
-        back (refused r) read e left = absurd (omega (arith, e, code_small r))
+        back (refused r) read e left = absurd (omega (arith, e, code_small few r))
 
         go : Dec (length strip < strip_bytes) → layer_words d (take (word after 4) room') ≡ words_in after
         go (yes h) = let forty = write_object_tells.no_strip.1 h in absurd (omega arith)

@@ -39,6 +39,7 @@ use Rattle.write_object.specs.Meaning as write-object
 use Rattle.pieces.specs.Meaning as pieces
 use Rattle.strip.specs.Shapes.{refusal_words, words_of, lookup_shape, dictionary_shape, strip_bytes}
 use Rattle.lichenhusk.specs.Promises.{FeedPromise}
+pub use Rattle.strip.specs.Reading.{word, words_in}
 
 -- WHAT CODE, NUMBER, ID, START, END AND PLACE SAY, call by call
 
@@ -129,13 +130,6 @@ pub data Runs : (strip store : List ℕ) → List (List ℕ) → (after left : L
       → FeedPromise store piece strip code next mid → Runs next mid pieces after left → Runs strip store (piece ∷ pieces) after left
 
 -- WHAT A CALL TELLS
-
--- word k of a strip, as the host reads it
-abbrev pub word : List ℕ → ℕ → ℕ
-word strip k = le 4 (drop (4 * k) strip)
-
-abbrev pub words_in : List ℕ → List ℕ
-words_in strip = word strip 0 ∷ word strip 1 ∷ word strip 2 ∷ word strip 3 ∷ word strip 4 ∷ word strip 5 ∷ []
 
 -- 40 was returned exactly where the strip is short; with any other code the strip's words, the code first, say what is so
 pub record Tells (Says : List ℕ → Type 0) (strip : List ℕ) (code : ℕ) (after : List ℕ) : Type 0 where

@@ -27,6 +27,16 @@ pub fn say(rt: &impl Print, words: &[u8], n: usize) -> io::Result<()> {
     say_to(&mut io::writer(rt), words, n)
 }
 
+// So many of these after some words: one, or more or none.
+pub fn counted(rt: &impl Print, words: &[u8], n: usize, one: &[u8], more: &[u8]) -> io::Result<()> {
+    say(rt, words, n)?;
+    if n == 1 {
+        tell(rt, one)
+    } else {
+        tell(rt, more)
+    }
+}
+
 // The bytes of `s` in hex, a space before each.
 pub fn write_hex(rt: &impl Print, s: &[u8]) -> io::Result<()> {
     for b in s {
@@ -45,7 +55,7 @@ pub fn wide(x: u32) -> usize
 // The words of `s`, a space before each.
 pub fn write_words(rt: &impl Print, s: &[u32]) -> io::Result<()> {
     for word in s {
-        say(rt, b" ", wide(*word))?;
+        print!(rt; " {word}")?;
     }
     Ok(())
 }

@@ -3,66 +3,69 @@
 
 use answers::Answer;
 use ask_into::STEPS;
-use print::{quoted, room, say, tell, wide};
+use print::{quoted, room, tell, wide};
 use slices::part_of;
 use speak::bits_of;
 use std::io;
 
-// The first word of a step by name. Of one by index it is 1.
+// The first word of a step.
 const BY_NAME: u32 = 0;
+
+const BY_INDEX: u32 = 1;
 
 // What the words hold before the call, and past those of the steps after it.
 const NO_STEP: u32 = 2;
 
-// The three words of a step.
-#[derive(Drop)]
-struct Step {
-    kind: u32,
-    low: usize,
-    high: usize,
+// A step, by the part of the names that it is from `start` to `end`, or by an index.
+#[derive(Clone, Copy)]
+enum Step {
+    Name { start: usize, end: usize },
+    Index(usize),
 }
 
-// Step k.
-fn step_at(words: &[u32], k: usize) -> Step {
+// Step k, if there are so many.
+fn step_at(words: &[u32], k: usize) -> Option<Step> {
     if words.len() / 3 <= k {
-        return Step {
-            kind: NO_STEP,
-            low: 0,
-            high: 0,
-        };
+        return None;
     }
     let at = 3 * k;
-    Step {
-        kind: words[at],
-        low: wide(words[at + 1]),
-        high: wide(words[at + 2]),
+    let low = wide(words[at + 1]);
+    let high = wide(words[at + 2]);
+    match words[at] {
+        BY_NAME => Some(Step::Name {
+            start: low,
+            end: high,
+        }),
+        BY_INDEX => Some(Step::Index(bits_of(low, high))),
+        _ => None,
     }
 }
 
-// The kind of the last step.
-fn last(words: &[u32]) -> u32 {
-    let mut kind = NO_STEP;
-    let mut k: usize = 0;
-    while k < words.len() {
-        let next = step_at(words, k).kind;
-        if next == NO_STEP {
-            return kind;
+// The last step; the empty path has none.
+fn last(words: &[u32]) -> Option<Step> {
+    let mut last = None;
+    for k in 0..words.len() {
+        let next = step_at(words, k);
+        if next.is_none() {
+            return last;
         }
-        kind = next;
-        k += 1;
+        last = next;
     }
-    kind
+    last
 }
 
 // What a step asks of a value that has no such.
-fn wrong_kind(rt: &impl Print, names: &[u8], s: Step) -> io::Result<()> {
-    if s.kind == BY_NAME {
-        tell(rt, b"it asks for the name ")?;
-        quoted(rt, part_of(names, s.low, s.high))?;
-        return tell(rt, b" of a value that is no object");
+fn wrong_kind(rt: &impl Print, names: &[u8], step: Step) -> io::Result<()> {
+    match step {
+        Step::Name { start, end } => {
+            tell(rt, b"it asks for the name ")?;
+            quoted(rt, part_of(names, start, end))?;
+            tell(rt, b" of a value that is no object")
+        }
+        Step::Index(index) => {
+            print!(rt; "it asks for element {index} of a value that is no list")
+        }
     }
-    say(rt, b"it asks for element ", bits_of(s.low, s.high))?;
-    tell(rt, b" of a value that is no list")
 }
 
 // 20 and 21 are of any value that is stepped into.
@@ -71,7 +74,10 @@ fn meaning(rt: &impl Print, a: Answer, names: &[u8], words: &[u32]) -> io::Resul
     match code {
         20 => reasons::above_limit(&mut io::writer(rt), b"a value on the way"),
         21 => tell(rt, b"a value on the way has no bytes"),
-        53 => wrong_kind(rt, names, step_at(words, a.place)),
+        53 => match step_at(words, a.place) {
+            Some(step) => wrong_kind(rt, names, step),
+            None => reasons::meaning(rt, code),
+        },
         _ => reasons::meaning(rt, code),
     }
 }
@@ -82,16 +88,15 @@ fn refused(rt: &impl Print, a: Answer, names: &[u8], words: &[u32]) -> io::Resul
     tell(rt, b"\n")
 }
 
-// What was found, by the kind of the last step.
-fn found(rt: &impl Print, whole: &[u8], a: Answer, kind: u32) -> io::Result<()> {
-    match kind {
-        0 => speak::field(rt, whole, a),
-        1 => {
-            say(rt, b"found: element ", a.number)?;
-            tell(rt, b", its value")?;
+// What was found, by the last step.
+fn found(rt: &impl Print, whole: &[u8], a: Answer, last: Option<Step>) -> io::Result<()> {
+    match last {
+        Some(Step::Name { .. }) => speak::field(rt, whole, a),
+        Some(Step::Index(_)) => {
+            print!(rt; "found: element {}, its value", a.number)?;
             speak::standing(rt, whole, a.start, a.end)
         }
-        _ => {
+        None => {
             tell(rt, b"found: the whole value,")?;
             speak::standing(rt, whole, a.start, a.end)
         }

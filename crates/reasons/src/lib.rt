@@ -1,15 +1,16 @@
-// Why something is refused, as words to standard output, or to `to`: what is here promises safety only.
+// Why something is refused, as words to standard output, or to `to`: what is here promises safety only. A refusal is told by its number, as the
+// C interface has it, since programs take it out of a strip.
 #![tactic(auto)]
 
-use print::{say_to, tell, tell_to};
+use answers::Answer;
+use print::{counted, tell, tell_to};
 use std::io;
 use std::io::Write;
 
 // That something is longer than any that the library reads or writes.
 pub fn above_limit(to: &mut impl Write, what: &[u8]) -> io::Result<()> {
     tell_to(to, what)?;
-    say_to(to, b" is longer than ", dictionary::LIMIT)?;
-    tell_to(to, b" bytes")
+    write!(to, " is longer than {} bytes", dictionary::LIMIT)
 }
 
 // Why a dictionary is refused.
@@ -96,15 +97,12 @@ fn meaning_of_path(rt: &impl Print, code: usize) -> io::Result<()> {
 // Where it is, for those that have a place.
 fn write_place(to: &mut impl Write, code: usize, place: usize) -> io::Result<()> {
     match code {
-        16 | 19 => {
-            say_to(to, b" at byte ", place)?;
-            tell_to(to, b" of the value region")
-        }
-        17 | 18 => say_to(to, b" at entry ", place),
-        25..=28 | 43 => say_to(to, b" at field ", place),
-        45 => say_to(to, b" at name ", place),
-        53 => say_to(to, b" at step ", place),
-        62 => say_to(to, b" at element ", place),
+        16 | 19 => write!(to, " at byte {place} of the value region"),
+        17 | 18 => write!(to, " at entry {place}"),
+        25..=28 | 43 => write!(to, " at field {place}"),
+        45 => write!(to, " at name {place}"),
+        53 => write!(to, " at step {place}"),
+        62 => write!(to, " at element {place}"),
         _ => Ok(()),
     }
 }
@@ -120,7 +118,7 @@ pub fn meaning(rt: &impl Print, code: usize) -> io::Result<()> {
 
 // What comes before the meaning: the number, and where it is.
 pub fn number_to(to: &mut impl Write, code: usize, place: usize) -> io::Result<()> {
-    say_to(to, b"refused ", code)?;
+    write!(to, "refused {code}")?;
     write_place(to, code, place)
 }
 
@@ -137,4 +135,13 @@ pub fn why(rt: &impl Print, code: usize, place: usize) -> io::Result<()> {
 pub fn refused(rt: &impl Print, code: usize, place: usize) -> io::Result<()> {
     why(rt, code, place)?;
     tell(rt, b"\n")
+}
+
+// What a dictionary's check answers, accepted or refused.
+pub fn verdict(rt: &impl Print, a: Answer) -> io::Result<()> {
+    if a.code != 0 {
+        return refused(rt, a.code, a.place);
+    }
+    counted(rt, b"accepted: ", a.number, b" name", b" names")?;
+    println!(rt; ", the end at byte {}", a.end)
 }

@@ -4,9 +4,8 @@
 use answers::Answer;
 use ask_pieces::MORE;
 use print::room::{ROOM, use_library};
-use print::{room, tell};
-use reasons::{number, why};
-use speak::counted;
+use print::{counted, room, tell};
+use reasons::{number, verdict, why};
 use std::io;
 use std::io::Read;
 use strip::STRIP;
@@ -62,7 +61,7 @@ fn say(rt: &impl Print, a: Answer) -> io::Result<()> {
     } else if a.code == 44 {
         too_long(rt)
     } else {
-        sentences::verdict(rt, a)
+        verdict(rt, a)
     }
 }
 

@@ -25,9 +25,9 @@ fn agrees(question: &[u8], words: &[u8]) -> bool {
         rows,
     );
     match outcome {
-        Outcome::Answered(a) => told::agrees(words, a),
-        Outcome::Listed { answer, filled } => told::agrees_rows(words, answer, rows, filled),
-        Outcome::NoCase(_) => false,
+        Ok(Outcome::Answered(a)) => told::agrees(words, a),
+        Ok(Outcome::Listed { answer, filled }) => told::agrees_rows(words, answer, rows, filled),
+        Err(_) => false,
     }
 }
 
@@ -55,14 +55,8 @@ fn judge(rt: &impl Print, t: Tally, line: &[u8]) -> io::Result<Tally> {
 
 fn run(rt: &impl Print, text: &[u8]) -> io::Result<Tally> {
     let mut t = tally::none();
-    let mut at: usize = 0;
-    while at < text.len() {
-        let end = find(text, at, b'\n');
-        t = judge(rt, t, &text[at..end])?;
-        if end == text.len() {
-            return Ok(t);
-        }
-        at = end + 1;
+    for piece in text.split_inclusive(|b| *b == b'\n') {
+        t = judge(rt, t, piece.strip_suffix(b"\n").unwrap_or(piece))?;
     }
     Ok(t)
 }
@@ -76,7 +70,5 @@ fn main(rt: HostRuntime) -> io::Result<()> {
     let mut text = room();
     let n = tally::load(&rt, b"answers", &mut text)?;
     let t = run(&rt, &text[0..n])?;
-    print::say(&rt, b"", t.cases)?;
-    print::say(&rt, b" answers of the Rust's, ", t.wrong)?;
-    print::tell(&rt, b" differ from ours\n")
+    println!(&rt; "{} answers of the Rust's, {} differ from ours", t.cases, t.wrong)
 }

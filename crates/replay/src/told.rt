@@ -5,209 +5,84 @@
 //     lays COUNT START LENGTH : BYTE ..     wants HELD
 use answers::Answer;
 use operands::ends;
-use outcomes::expected::{has_filled, see};
+use outcomes::expected::{has_filled, see, see_all};
+use part::Span;
 use text::word;
 
-// Whether the text from `from` on has just these two numbers.
-fn two(text: &[u8], from: usize, first: usize, second: usize) -> bool {
-    let a = see(text, from, first);
-    if !a.same {
-        return false;
-    }
-    let b = see(text, a.next, second);
-    if !b.same {
-        return false;
-    }
-    ends(text, b.next)
-}
-
-// Whether the text has field, id, start and end, and no more.
-fn found(text: &[u8], a: Answer) -> bool {
-    let field = see(text, 0, a.number);
-    if !field.same {
-        return false;
-    }
-    let id = see(text, field.next, a.id);
-    if !id.same {
-        return false;
-    }
-    two(text, id.next, a.start, a.end)
-}
-
-// Whether the text has the kind of a value and its two words, and no more.
-fn reads(text: &[u8], a: Answer) -> bool {
-    let kind = see(text, 0, a.number);
-    if !kind.same {
-        return false;
-    }
-    two(text, kind.next, a.start, a.end)
+// Whether the text has just these numbers.
+fn just(text: &[u8], wants: &[usize]) -> bool {
+    see_all(text, 0, wants).is_some_and(|next| ends(text, next))
 }
 
 // Whether the words between code and place are 0, but for the start.
 fn gives_nothing(a: Answer) -> bool {
-    if a.number != 0 {
-        return false;
-    }
-    if a.id != 0 {
-        return false;
-    }
-    a.end == 0
+    a.number == 0 && a.id == 0 && a.end == 0
 }
 
 // The number, and of a tree the start of the value that it is of; where none is told, it is 0.
 fn refused(text: &[u8], a: Answer) -> bool {
-    if !gives_nothing(a) {
+    let Some(next) = see(text, 0, a.code) else {
         return false;
-    }
-    let code = see(text, 0, a.code);
-    if !code.same {
-        return false;
-    }
-    if ends(text, code.next) {
-        return a.start == 0;
-    }
-    let start = see(text, code.next, a.start);
-    if !start.same {
-        return false;
-    }
-    ends(text, start.next)
+    };
+    let start_is_told = if ends(text, next) {
+        a.start == 0
+    } else {
+        see(text, next, a.start).is_some_and(|next| ends(text, next))
+    };
+    gives_nothing(a) && start_is_told
 }
 
 fn accepted(verb: &[u8], rest: &[u8], a: Answer) -> bool {
     if a.place != 0 {
         return false;
     }
-    if check::same(verb, b"found") {
-        return found(rest, a);
-    }
-    if a.id != 0 {
-        return false;
-    }
-    if check::same(verb, b"reads") {
-        return reads(rest, a);
-    }
-    if check::same(verb, b"accepts") {
-        return two(rest, 0, a.number, a.end);
-    }
-    if check::same(verb, b"child") {
-        return two(rest, 0, a.number, a.end);
-    }
-    if check::same(verb, b"at") {
-        if a.number != 0 {
-            return false;
-        }
-        return two(rest, 0, a.start, a.end);
-    }
-    false
-}
-
-fn absent(verb: &[u8], a: Answer) -> bool {
-    if !check::same(verb, b"absent") {
-        return false;
-    }
-    if a.place != 0 {
-        return false;
-    }
-    if a.start != 0 {
-        return false;
-    }
-    gives_nothing(a)
-}
-
-// Of pieces, how many bytes are held; how many are wanted is not told.
-fn wants(verb: &[u8], rest: &[u8], a: Answer) -> bool {
-    if !check::same(verb, b"wants") {
-        return false;
-    }
-    if a.id != 0 {
-        return false;
-    }
-    if a.start != 0 {
-        return false;
-    }
-    if a.place != 0 {
-        return false;
-    }
-    let held = see(rest, 0, a.number);
-    if !held.same {
-        return false;
-    }
-    ends(rest, held.next)
-}
-
-pub fn agrees(words: &[u8], a: Answer) -> bool {
-    let w = word(words, 0);
-    let s = w.start;
-    let e = w.end;
-    let n = words.len();
-    let verb = &words[s..e];
-    let rest = &words[e..n];
-    if check::same(verb, b"refuses") {
-        return refused(rest, a);
-    }
-    let code = a.code;
-    match code {
-        0 => accepted(verb, rest, a),
-        1 => absent(verb, a),
-        3 => wants(verb, rest, a),
+    match verb {
+        b"found" => just(rest, &[a.number, a.id, a.start, a.end]),
+        b"reads" => a.id == 0 && just(rest, &[a.number, a.start, a.end]),
+        b"accepts" | b"child" => a.id == 0 && just(rest, &[a.number, a.end]),
+        b"at" => a.id == 0 && a.number == 0 && just(rest, &[a.start, a.end]),
         _ => false,
     }
 }
 
-// Whether the text from `from` on has the end, and after it the `n` words that we filled.
-fn filled(text: &[u8], from: usize, a: Answer, words: &[u32], n: usize) -> bool {
-    let end = see(text, from, a.end);
-    if !end.same {
-        return false;
-    }
-    has_filled(text, end.next, words, n)
+fn absent(a: Answer) -> bool {
+    a.place == 0 && a.start == 0 && gives_nothing(a)
 }
 
-// Count and end: of many names, and of a dictionary that is written.
-fn rows(text: &[u8], from: usize, a: Answer, words: &[u32], n: usize) -> bool {
-    let count = see(text, from, a.number);
-    if !count.same {
-        return false;
-    }
-    filled(text, count.next, a, words, n)
+// Of pieces, how many bytes are held; how many are wanted is not told.
+fn wants(rest: &[u8], a: Answer) -> bool {
+    a.id == 0 && a.start == 0 && a.place == 0 && just(rest, &[a.number])
 }
 
-// Count, start and end: of an object that is written.
-fn lays(text: &[u8], from: usize, a: Answer, words: &[u32], n: usize) -> bool {
-    let count = see(text, from, a.number);
-    if !count.same {
-        return false;
+pub fn agrees(words: &[u8], a: Answer) -> bool {
+    let Span { start, end } = word(words, 0);
+    let verb = &words[start..end];
+    let rest = &words[end..];
+    match (a.code, verb) {
+        (_, b"refuses") => refused(rest, a),
+        (0, _) => accepted(verb, rest, a),
+        (1, b"absent") => absent(a),
+        (3, b"wants") => wants(rest, a),
+        _ => false,
     }
-    let start = see(text, count.next, a.start);
-    if !start.same {
-        return false;
-    }
-    filled(text, start.next, a, words, n)
+}
+
+// Whether the text has these numbers, and after them the `n` words that we filled.
+fn filled(text: &[u8], wants: &[usize], words: &[u32], n: usize) -> bool {
+    see_all(text, 0, wants).is_some_and(|next| has_filled(text, next, words, n))
 }
 
 // Of many names, and of what is written. A dictionary has no start.
 pub fn agrees_rows(text: &[u8], a: Answer, words: &[u32], n: usize) -> bool {
-    let w = word(text, 0);
-    let s = w.start;
-    let e = w.end;
-    let verb = &text[s..e];
-    if a.id != 0 {
+    let Span { start, end } = word(text, 0);
+    let rest = &text[end..];
+    if a.id != 0 || a.place != 0 {
         return false;
     }
-    if a.place != 0 {
-        return false;
+    match &text[start..end] {
+        b"rows" => filled(rest, &[a.number, a.end], words, n),
+        b"lays" => filled(rest, &[a.number, a.start, a.end], words, n),
+        b"writes" => a.start == 0 && filled(rest, &[a.number, a.end], words, n),
+        _ => false,
     }
-    if check::same(verb, b"rows") {
-        return rows(text, e, a, words, n);
-    }
-    if check::same(verb, b"lays") {
-        return lays(text, e, a, words, n);
-    }
-    if !check::same(verb, b"writes") {
-        return false;
-    }
-    if a.start != 0 {
-        return false;
-    }
-    rows(text, e, a, words, n)
 }

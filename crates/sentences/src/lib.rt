@@ -1,24 +1,13 @@
 // Each answer as a sentence to standard output: what is here promises safety only.
 #![tactic(auto)]
 
-ghost use Rattle.std.specs.Prelude.{◌+◌, ◌≤◌, length};
+ghost use Rattle.std.specs.Prelude.{◌≡◌, length};
 
 use answers::Answer;
-use print::{quoted, say, tell, wide};
-use reasons::{refused, why};
+use print::{counted, quoted, tell, wide};
+use reasons::{refused, verdict, why};
 use slices::part_of;
-use speak::counted;
 use std::io;
-
-// What a dictionary's check answers.
-pub fn verdict(rt: &impl Print, a: Answer) -> io::Result<()> {
-    if a.code != 0 {
-        return refused(rt, a.code, a.place);
-    }
-    counted(rt, b"accepted: ", a.number, b" name", b" names")?;
-    say(rt, b", the end at byte ", a.end)?;
-    tell(rt, b"\n")
-}
 
 pub fn check_dictionary(rt: &impl Print, dict: &[u8]) -> io::Result<()> {
     verdict(rt, ask::dictionary(dict))
@@ -32,8 +21,7 @@ pub fn check_tree(rt: &impl Print, dict: &[u8], value: &[u8]) -> io::Result<()> 
     }
     why(rt, a.code, a.place)?;
     if 0 < a.start {
-        say(rt, b"; in the value from byte ", a.start)?;
-        tell(rt, b" on, at ")?;
+        print!(rt; "; in the value from byte {} on, at ", a.start)?;
         trail::write(rt, dict, value, a.start)?;
     }
     tell(rt, b"\n")
@@ -44,10 +32,7 @@ pub fn name(rt: &impl Print, dict: &[u8], entry: usize) -> io::Result<()> {
     if a.code != 0 {
         return refused(rt, a.code, a.place);
     }
-    say(rt, b"entry ", entry)?;
-    say(rt, b" is at bytes ", a.start)?;
-    say(rt, b" to ", a.end)?;
-    tell(rt, b": ")?;
+    print!(rt; "entry {entry} is at bytes {} to {}: ", a.start, a.end)?;
     quoted(rt, part_of(dict, a.start, a.end))?;
     tell(rt, b"\n")
 }
@@ -75,15 +60,15 @@ pub fn sought(rt: &impl Print, name: &[u8]) -> io::Result<()> {
 }
 
 // What the five words of a name say, as if it had been asked alone.
-fn row(words: &[u32], at: usize) -> Answer
-    requires { at + 5 ≤ length words.now }
+fn row(words: &[u32]) -> Answer
+    requires { length words.now ≡ 5 }
 {
     Answer {
-        code: wide(words[at]),
-        number: wide(words[at + 1]),
-        id: wide(words[at + 2]),
-        start: wide(words[at + 3]),
-        end: wide(words[at + 4]),
+        code: wide(words[0]),
+        number: wide(words[1]),
+        id: wide(words[2]),
+        start: wide(words[3]),
+        end: wide(words[4]),
         place: 0,
     }
 }
@@ -97,16 +82,12 @@ fn rows(
     words: &[u32],
 ) -> io::Result<()> {
     let mut begin: usize = 0;
-    let mut at: usize = 0;
-    for k in 0..ends.len() {
-        if words.len() - at < 5 {
-            return Ok(());
-        }
-        let end = wide(ends[k]);
+    let (fives, _) = words.as_chunks::<5>();
+    for (end, five) in ends.iter().zip(fives) {
+        let end = wide(*end);
         sought(rt, part_of(names, begin, end))?;
-        found(rt, object, row(words, at))?;
+        found(rt, object, row(five))?;
         begin = end;
-        at += 5;
     }
     Ok(())
 }

@@ -2,14 +2,13 @@
 ghost use Rattle.layout.specs.Steps.{Few};
 
 use crate::numbers::write_signed;
-use crate::{counted, start_of};
+use crate::start_of;
 use encoding::Header;
 use layout::{Head, Widths};
-use print::{quoted, say, tell, write_hex};
+use print::{counted, quoted, tell, write_hex};
 use slices::part_of;
 use std::io;
 use utf8::Verdict;
-use width::wide;
 
 // How many bytes of a string are shown.
 const SHOWN: usize = 64;
@@ -29,14 +28,12 @@ fn text(rt: &impl Print, s: &[u8]) -> io::Result<()> {
         tell(rt, b"string ")?;
         return quoted(rt, s);
     }
-    say(rt, b"string of ", s.len())?;
-    tell(rt, b" bytes that starts ")?;
+    print!(rt; "string of {} bytes that starts ", s.len())?;
     quoted(rt, whole_characters(part_of(s, 0, SHOWN)))
 }
 
 fn no_text(rt: &impl Print, s: &[u8]) -> io::Result<()> {
-    say(rt, b"string of ", s.len())?;
-    tell(rt, b" bytes that are not UTF-8:")?;
+    print!(rt; "string of {} bytes that are not UTF-8:", s.len())?;
     start_of(rt, s)
 }
 
@@ -57,11 +54,10 @@ fn binary(rt: &impl Print, s: &[u8]) -> io::Result<()> {
 
 // The scale, and the number as if it had no decimals. One of 16 bytes is no number of 64 bits: its bytes are shown.
 fn decimal(rt: &impl Print, s: &[u8]) -> io::Result<()> {
-    if s.len() < 1 {
+    let Some((scale, number)) = s.split_first() else {
         return Ok(());
-    }
-    say(rt, b"decimal with scale ", wide(s[0]))?;
-    let number = part_of(s, 1, s.len());
+    };
+    print!(rt; "decimal with scale {scale}")?;
     if number.len() == 16 {
         tell(rt, b", a number of 16 bytes, the lowest first:")?;
         return write_hex(rt, number);
@@ -108,13 +104,11 @@ fn count_by(s: &[u8], w: Widths) -> usize
 }
 
 fn count_of(s: &[u8]) -> usize {
-    if s.len() < 1 {
+    let Some(first) = s.first() else {
         return 0;
-    }
-    let header = encoding::header_of(s[0]);
-    match header {
-        Header::Object(w) => count_by(s, w),
-        Header::List(w) => count_by(s, w),
+    };
+    match encoding::header_of(*first) {
+        Header::Object(w) | Header::List(w) => count_by(s, w),
         _ => 0,
     }
 }

@@ -5,20 +5,10 @@ mod kinds;
 mod numbers;
 
 use answers::Answer;
-use print::{say, tell, write_hex};
+use print::{tell, write_hex};
 use reasons::meaning_of_value;
 use slices::part_of;
 use std::io;
-
-// So many of these after some words: one, or more or none.
-pub fn counted(rt: &impl Print, words: &[u8], n: usize, one: &[u8], more: &[u8]) -> io::Result<()> {
-    say(rt, words, n)?;
-    if n == 1 {
-        tell(rt, one)
-    } else {
-        tell(rt, more)
-    }
-}
 
 // The first bytes in hex.
 pub fn start_of(rt: &impl Print, s: &[u8]) -> io::Result<()> {
@@ -34,6 +24,7 @@ pub fn bits_of(low: usize, high: usize) -> usize {
     low % 0x1_0000_0000 + high % 0x1_0000_0000 * 0x1_0000_0000
 }
 
+// The kinds are numbers of the C interface, since a program takes them out of a strip.
 fn read(rt: &impl Print, bytes: &[u8], a: Answer) -> io::Result<()> {
     let kind = a.number;
     match kind {
@@ -52,15 +43,13 @@ pub fn value(rt: &impl Print, bytes: &[u8]) -> io::Result<()> {
         tell(rt, b", read as ")?;
         return read(rt, bytes, a);
     }
-    say(rt, b", refused ", a.code)?;
-    tell(rt, b": ")?;
+    print!(rt; ", refused {}: ", a.code)?;
     meaning_of_value(rt, a.code)
 }
 
 // Where a value stands in the whole, its first bytes, and what it is read as.
 pub fn standing(rt: &impl Print, whole: &[u8], start: usize, end: usize) -> io::Result<()> {
-    say(rt, b" from byte ", start)?;
-    say(rt, b" to byte ", end)?;
+    print!(rt; " from byte {start} to byte {end}")?;
     if start == end {
         return tell(rt, b", no bytes\n");
     }
@@ -73,8 +62,6 @@ pub fn standing(rt: &impl Print, whole: &[u8], start: usize, end: usize) -> io::
 
 // A field that was found.
 pub fn field(rt: &impl Print, whole: &[u8], a: Answer) -> io::Result<()> {
-    say(rt, b"found: field ", a.number)?;
-    say(rt, b", entry ", a.id)?;
-    tell(rt, b" of the dictionary, its value")?;
+    print!(rt; "found: field {}, entry {} of the dictionary, its value", a.number, a.id)?;
     standing(rt, whole, a.start, a.end)
 }

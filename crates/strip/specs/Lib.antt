@@ -1,4 +1,5 @@
 pub mod Shapes
 pub mod Steps
 pub mod Strip
+pub mod Reading
 pub mod Promises

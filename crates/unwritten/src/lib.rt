@@ -2,7 +2,7 @@
 #![tactic(auto)]
 
 use print::room::use_library;
-use print::{say_to, tell_to};
+use print::tell_to;
 use reasons::{above_limit, meaning_of_dictionary, number_to};
 use std::io;
 use std::io::Write;
@@ -35,17 +35,14 @@ fn meaning_of_pairs(to: &mut impl Write, code: usize, most: usize) -> io::Result
 
 // The line of a name, or of a pair, where each has one: these are counted from 0, and lines from 1, as editors do.
 fn line_of(number: usize) -> usize {
-    if number < usize::MAX {
-        return number + 1;
-    }
-    number
+    number.saturating_add(1)
 }
 
 // Of a dictionary that was to be written of names that are lines.
 pub fn dictionary(to: &mut impl Write, code: usize, place: usize, most: usize) -> io::Result<()> {
     number_to(to, code, place)?;
     if code == 45 {
-        say_to(to, b", line ", line_of(place))?;
+        write!(to, ", line {}", line_of(place))?;
     }
     tell_to(to, b": ")?;
     meaning_of_names(to, code, most)?;
@@ -54,9 +51,7 @@ pub fn dictionary(to: &mut impl Write, code: usize, place: usize, most: usize) -
 
 // The number, and which pair of which line it is of.
 fn pair_number(to: &mut impl Write, code: usize, place: usize) -> io::Result<()> {
-    say_to(to, b"refused ", code)?;
-    say_to(to, b" at pair ", place)?;
-    say_to(to, b", line ", line_of(place))
+    write!(to, "refused {code} at pair {place}, line {}", line_of(place))
 }
 
 // Of an object that was to be written of pairs that are lines.
@@ -82,8 +77,7 @@ fn meaning_of_fault(to: &mut impl Write, fault: usize) -> io::Result<()> {
 
 // Of a line that is no pair: the line's number from 0 on, and its fault.
 pub fn pair(to: &mut impl Write, line: usize, fault: usize) -> io::Result<()> {
-    say_to(to, b"line ", line_of(line))?;
-    tell_to(to, b": ")?;
+    write!(to, "line {}: ", line_of(line))?;
     meaning_of_fault(to, fault)?;
     tell_to(to, b"\n")
 }

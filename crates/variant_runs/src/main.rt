@@ -10,7 +10,7 @@ use print::room;
 use std::io;
 use std::io::{Read, Write};
 use std::rt::Files;
-use text::{find, word};
+use text::word;
 
 // The names of a line of `commands`.
 const RUN: usize = 4096;
@@ -18,25 +18,17 @@ const RUN: usize = 4096;
 // The bytes of `commands`, and more.
 const COMMANDS: usize = 65_536;
 
-// 1 for a word, and 0 for none.
-fn counts(start: usize, end: usize) -> usize
-    ensures { result ≤ 1 }
-{
-    if start == end {
-        return 0;
-    }
-    1
-}
-
 // How many of five words there are, and one more for the program's name.
 fn count(line: &[u8]) -> usize {
-    let a = word(line, 0);
-    let b = word(line, a.end);
-    let c = word(line, b.end);
-    let d = word(line, c.end);
-    let e = word(line, d.end);
-    let three = counts(a.start, a.end) + counts(b.start, b.end) + counts(c.start, c.end);
-    1 + three + counts(d.start, d.end) + counts(e.start, e.end)
+    let mut next = 0;
+    for count in 1..6 {
+        let found = word(line, next);
+        if found.start == found.end {
+            return count;
+        }
+        next = found.end;
+    }
+    6
 }
 
 // The names that were gathered: the first `len` bytes of a run, and the first `count` ends.
@@ -51,15 +43,9 @@ fn put(run: &mut [u8], at: usize, word: &[u8]) -> usize
     requires { at ≤ length run.old }
     ensures { result ≤ length run.new }
 {
-    let mut to = at;
-    for i in 0..word.len() {
-        if to == run.len() {
-            return to;
-        }
-        run[to] = word[i];
-        to += 1;
-    }
-    to
+    let n = word.len().min(run.len() - at);
+    run[at..at + n].copy_from_slice(&word[..n]);
+    at + n
 }
 
 // The words from `from` on, one after another, as far as there is room for their ends.
@@ -69,8 +55,7 @@ fn gather(line: &[u8], from: usize, run: &mut [u8], ends: &mut [u32]) -> Names
 {
     let mut next = from;
     let mut len: usize = 0;
-    let mut count: usize = 0;
-    while count < ends.len() {
+    for count in 0..ends.len() {
         let name = word(line, next);
         let a = name.start;
         let e = name.end;
@@ -79,10 +64,12 @@ fn gather(line: &[u8], from: usize, run: &mut [u8], ends: &mut [u32]) -> Names
         }
         len = put(run, len, &line[a..e]);
         ends[count] = len as u32;
-        count += 1;
         next = e;
     }
-    Names { len, count }
+    Names {
+        len,
+        count: ends.len(),
+    }
 }
 
 // A line of `commands` is shorter than the run; of ends there is room for one more than `find` takes.
@@ -103,20 +90,16 @@ fn find_names(
 
 // The path that a word spells; `''` is the empty one, as in a shell.
 fn get(rt: &(impl Files + Print), dict: &[u8], value: &[u8], word: &[u8]) -> io::Result<()> {
-    if check::same(word, b"''") {
-        command::get(rt, dict, value, b"")
-    } else {
-        command::get(rt, dict, value, word)
+    match word {
+        b"''" => command::get(rt, dict, value, b""),
+        _ => command::get(rt, dict, value, word),
     }
 }
 
 // As many of the first bytes as a line shows.
 fn front(s: &[u8]) -> &[u8] {
     let n = s.len();
-    if n < 64 {
-        return &s[0..n];
-    }
-    &s[0..64]
+    &s[..n.min(64)]
 }
 
 // What stands in place of standard input: a file, or what cannot be read where there is none.
@@ -145,8 +128,8 @@ fn to_read<R: Files>(rt: &R, path: &[u8]) -> Given<R::File> {
 // What `write-dictionary` makes of a file, its messages among it: the first bytes in hex, and how all are read.
 fn write_dictionary(rt: &(impl Files + Print), path: &[u8]) -> io::Result<()> {
     let mut room = room::bytes();
-    let n = composed::from_input(&mut to_read(rt, path), &mut io::writer(rt), &mut room)?;
-    if 0 < n {
+    let made = composed::from_input(&mut to_read(rt, path), &mut io::writer(rt), &mut room)?;
+    if let Some(n) = made {
         print::write_hex(rt, front(&room[0..n]))?;
         print::tell(rt, b"\n")?;
         sentences::check_dictionary(rt, &room[0..n])?;
@@ -163,13 +146,13 @@ fn write_object(rt: &(impl Files + Print), path: &[u8], lines: &[u8]) -> io::Res
     }
     let m = dict.len;
     let mut room = room::bytes();
-    let n = assembled::from_input(
+    let made = assembled::from_input(
         &lent[0..m],
         &mut to_read(rt, lines),
         &mut io::writer(rt),
         &mut room,
     )?;
-    if 0 < n {
+    if let Some(n) = made {
         print::write_hex(rt, front(&room[0..n]))?;
         print::tell(rt, b"\n")?;
         described::list(rt, &lent[0..m], &room[0..n])?;
@@ -212,17 +195,12 @@ fn act(rt: &(impl Files + Input + Print), errors: &mut impl Write, line: &[u8]) 
 }
 
 fn run(rt: &(impl Files + Input + Print), errors: &mut impl Write, text: &[u8]) -> io::Result<()> {
-    let mut at: usize = 0;
-    while at < text.len() {
-        let end = find(text, at, b'\n');
+    for piece in text.split_inclusive(|b| *b == b'\n') {
+        let line = piece.strip_suffix(b"\n").unwrap_or(piece);
         print::tell(rt, b"$ variant ")?;
-        print::tell(rt, &text[at..end])?;
+        print::tell(rt, line)?;
         print::tell(rt, b"\n")?;
-        act(rt, errors, &text[at..end])?;
-        if end == text.len() {
-            return Ok(());
-        }
-        at = end + 1;
+        act(rt, errors, line)?;
     }
     Ok(())
 }

@@ -30,7 +30,7 @@ pub fn case(rt: &impl Print, t: Tally, line: &[u8]) -> io::Result<Tally> {
     if colon == line.len() {
         return no_case(rt, t);
     }
-    let read = operands::read(
+    let Ok(read) = operands::read(
         line,
         colon + 1,
         3,
@@ -39,10 +39,9 @@ pub fn case(rt: &impl Print, t: Tally, line: &[u8]) -> io::Result<Tally> {
         &mut name,
         &mut want,
         &mut [0; 0],
-    );
-    if read.fault != 0 {
+    ) else {
         return no_case(rt, t);
-    }
+    };
     child(
         rt,
         t,

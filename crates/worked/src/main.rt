@@ -14,6 +14,7 @@ mod states;
 mod writes;
 
 use crate::writes::What;
+use operands::Fault;
 use outcomes::Outcome;
 use std::io;
 use std::rt::Files;
@@ -30,7 +31,7 @@ fn judge(
     rt: &impl Print,
     t: Tally,
     want: &[u8],
-    outcome: Outcome,
+    outcome: Result<Outcome, Fault>,
     words: &[u32],
 ) -> io::Result<Tally> {
     outcomes::write(rt, outcome, words, ROOM)?;
@@ -78,38 +79,17 @@ fn question(rt: &impl Print, t: Tally, line: &[u8]) -> io::Result<Tally> {
     answer(rt, t, &line[from..equals], &line[after..n])
 }
 
-// What the lines of a table are.
-#[derive(Clone, Copy)]
-enum Kind {
-    Question,
-    Child,
-    Path,
-    Write,
-    WriteObject,
-    State,
-}
-
-fn case(rt: &impl Print, t: Tally, kind: Kind, line: &[u8]) -> io::Result<Tally> {
-    match kind {
-        Kind::Question => question(rt, t, line),
-        Kind::Child => children::case(rt, t, line),
-        Kind::Path => paths::case(rt, t, line),
-        Kind::Write => writes::case(rt, t, What::Dictionary, line),
-        Kind::WriteObject => writes::case(rt, t, What::Object, line),
-        Kind::State => states::case(rt, t, line),
-    }
-}
-
-fn run(rt: &impl Print, tally: Tally, kind: Kind, text: &[u8]) -> io::Result<Tally> {
+// Each line of a table to what judges such a line.
+fn run<F: Fn(Tally, &[u8]) -> io::Result<Tally>>(
+    tally: Tally,
+    text: &[u8],
+    case: F,
+) -> io::Result<Tally>
+    requires { F.IsAlwaysCallable case }
+{
     let mut t = tally;
-    let mut at: usize = 0;
-    while at < text.len() {
-        let end = find(text, at, b'\n');
-        t = case(rt, t, kind, &text[at..end])?;
-        if end == text.len() {
-            return Ok(t);
-        }
-        at = end + 1;
+    for piece in text.split_inclusive(|b| *b == b'\n') {
+        t = case(t, piece.strip_suffix(b"\n").unwrap_or(piece))?;
     }
     Ok(t)
 }
@@ -118,27 +98,34 @@ fn table_room() -> [u8; TABLE] {
     [0; TABLE]
 }
 
-fn table(
+fn table<F: Fn(Tally, &[u8]) -> io::Result<Tally>>(
     rt: &(impl Files + Print + Eprint),
     t: Tally,
-    kind: Kind,
     file: &[u8],
-) -> io::Result<Tally> {
+    case: F,
+) -> io::Result<Tally>
+    requires { F.IsAlwaysCallable case }
+{
     let mut text = table_room();
     let n = tally::load(rt, file, &mut text)?;
-    run(rt, t, kind, &text[0..n])
+    run(t, &text[0..n], case)
 }
 
 fn main(rt: HostRuntime) -> io::Result<()> {
-    let t = table(&rt, tally::none(), Kind::Question, b"cases")?;
+    let questions = |t, line: &[u8]| question(&rt, t, line);
+    let t = table(&rt, tally::none(), b"cases", questions)?;
     let t = special::rooms(&rt, t)?;
-    let t = table(&rt, t, Kind::Child, b"children")?;
+    let t = table(&rt, t, b"children", |t, line: &[u8]| children::case(&rt, t, line))?;
     let t = special::run(&rt, t)?;
-    let t = table(&rt, t, Kind::Path, b"paths")?;
-    let t = table(&rt, t, Kind::Write, b"writes")?;
-    let t = table(&rt, t, Kind::Question, b"object_cases")?;
-    let t = table(&rt, t, Kind::WriteObject, b"objects")?;
-    let t = table(&rt, t, Kind::Question, b"piece_cases")?;
-    let t = table(&rt, t, Kind::State, b"states")?;
+    let t = table(&rt, t, b"paths", |t, line: &[u8]| paths::case(&rt, t, line))?;
+    let t = table(&rt, t, b"writes", |t, line: &[u8]| {
+        writes::case(&rt, t, What::Dictionary, line)
+    })?;
+    let t = table(&rt, t, b"object_cases", questions)?;
+    let t = table(&rt, t, b"objects", |t, line: &[u8]| {
+        writes::case(&rt, t, What::Object, line)
+    })?;
+    let t = table(&rt, t, b"piece_cases", questions)?;
+    let t = table(&rt, t, b"states", |t, line: &[u8]| states::case(&rt, t, line))?;
     report::close(&rt, t)
 }

@@ -73,7 +73,7 @@ pub fn case(rt: &impl Print, t: Tally, line: &[u8]) -> io::Result<Tally> {
     let mut path = [0u8; 32];
     let mut spelt = [0u8; 32];
     let mut numbers = [0u32; 16];
-    let read = operands::read(
+    let Ok(read) = operands::read(
         line,
         0,
         3,
@@ -82,10 +82,9 @@ pub fn case(rt: &impl Print, t: Tally, line: &[u8]) -> io::Result<Tally> {
         &mut path,
         &mut spelt,
         &mut numbers,
-    );
-    if read.fault != 0 {
+    ) else {
         return no_case(rt, t);
-    }
+    };
     in_rooms(
         rt,
         t,

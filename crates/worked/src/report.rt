@@ -34,31 +34,14 @@ pub fn number(
 // A case whose answer is bytes.
 pub fn bytes(rt: &impl Print, t: Tally, case: &[u8], got: &[u8], want: &[u8]) -> io::Result<Tally> {
     print::tell(rt, case)?;
-    print::say(rt, b": ", got.len())?;
-    if got.len() == 1 {
-        print::tell(rt, b" byte")?;
-    } else {
-        print::tell(rt, b" bytes")?;
-    }
+    print::counted(rt, b": ", got.len(), b" byte", b" bytes")?;
     print::write_hex(rt, got)?;
-    if check::same(got, want) {
+    if got == want {
         return good(rt, t);
     }
     print::tell(rt, b": NOT as expected:")?;
     print::write_hex(rt, want)?;
     bad(rt, t)
-}
-
-fn same_words(got: &[u32], want: &[u32]) -> bool {
-    if got.len() != want.len() {
-        return false;
-    }
-    for i in 0..got.len() {
-        if got[i] != want[i] {
-            return false;
-        }
-    }
-    true
 }
 
 // A case whose answer is words.
@@ -72,7 +55,7 @@ pub fn words(
     print::tell(rt, case)?;
     print::tell(rt, b":")?;
     print::write_words(rt, got)?;
-    if same_words(got, want) {
+    if got == want {
         return good(rt, t);
     }
     print::tell(rt, b": NOT as expected:")?;
@@ -87,7 +70,5 @@ pub fn no_case(rt: &impl Print, t: Tally) -> io::Result<Tally> {
 }
 
 pub fn close(rt: &impl Print, t: Tally) -> io::Result<()> {
-    print::say(rt, b"", t.cases)?;
-    print::say(rt, b" cases, ", t.wrong)?;
-    print::tell(rt, b" not as expected\n")
+    println!(rt; "{} cases, {} not as expected", t.cases, t.wrong)
 }

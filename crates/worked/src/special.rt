@@ -12,8 +12,7 @@ fn empty(
     want: &[u8],
     verdict: usize,
 ) -> io::Result<Tally> {
-    print::tell(rt, b"the empty dictionary into a room of ")?;
-    print::say(rt, b"", room.len())?;
+    print!(rt; "the empty dictionary into a room of {}", room.len())?;
     let t = number(
         rt,
         t,
@@ -37,19 +36,12 @@ fn as_p(b: u8) -> bool {
         0x02, 0x02, 0x00, 0x01, 0x01, 0x00, 0x03, 0x04, 0x0C, 0xFB, b,
     ];
     let a = ask::lookup(b"\x11\x02\x00\x04\x08flowroll", &p, b"flow");
-    outcomes::expected::is(b"0 0 0 8 10 0", outcomes::Outcome::Answered(a), &[0; 1])
+    outcomes::expected::is(b"0 0 0 8 10 0", Ok(outcomes::Outcome::Answered(a)), &[0; 1])
 }
 
 // How many bytes from 0 on may stand after P.
 fn bytes_after_p() -> usize {
-    let mut b: usize = 0;
-    while b < 256 {
-        if !as_p(b as u8) {
-            return b;
-        }
-        b += 1;
-    }
-    b
+    (0..=u8::MAX).take_while(|b| as_p(*b)).count()
 }
 
 // Word k of 16 that were 9, after names of P are looked up at one check.
@@ -62,10 +54,7 @@ fn word_after(ends: &[u32], k: usize) -> usize {
         ends,
         &mut words,
     );
-    if 16 <= k {
-        return 0;
-    }
-    print::wide(words[k])
+    words.get(k).map_or(0, |word| print::wide(*word))
 }
 
 // The words after those of the names stay, and with a refusal all do.

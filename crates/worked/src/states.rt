@@ -27,8 +27,7 @@ fn fed(
     if strip.len() < k {
         return no_case(rt, t);
     }
-    print::say(rt, b", a strip of ", k)?;
-    print::tell(rt, b", piece")?;
+    print!(rt; ", a strip of {k}, piece")?;
     print::write_hex(rt, piece)?;
     let got = lichenhusk_feed(store, piece, &mut strip[0..k]);
     let t = number(rt, t, b"", got as usize, code)?;
@@ -60,8 +59,7 @@ fn in_store(
     if 255 < state || 255 < held {
         return no_case(rt, t);
     }
-    print::say(rt, b"state ", state)?;
-    print::say(rt, b", held ", held)?;
+    print!(rt; "state {state}, held {held}")?;
     let n = want.len();
     fed(
         rt,
@@ -79,7 +77,7 @@ pub fn case(rt: &impl Print, t: Tally, line: &[u8]) -> io::Result<Tally> {
     let mut piece = [0u8; 16];
     let mut want = [0u8; 16];
     let mut numbers = [0u32; 4];
-    let read = operands::read(
+    let Ok(read) = operands::read(
         line,
         0,
         2,
@@ -88,10 +86,9 @@ pub fn case(rt: &impl Print, t: Tally, line: &[u8]) -> io::Result<Tally> {
         &mut want,
         &mut [0; 0],
         &mut numbers,
-    );
-    if read.fault != 0 {
+    ) else {
         return no_case(rt, t);
-    }
+    };
     in_store(
         rt,
         t,

@@ -62,8 +62,7 @@ fn written(
     want: &[u8],
 ) -> io::Result<Tally> {
     tell(rt, what, given, numbers)?;
-    print::say(rt, b", scratch of ", order.len())?;
-    print::say(rt, b" and ", spare.len())?;
+    print!(rt; ", scratch of {} and {}", order.len(), spare.len())?;
     let got = write(what, dict, given, numbers, order, spare, room, strip);
     let t = number(rt, t, b" words", got as usize, code)?;
     bytes(rt, t, b"the room after it", room, want)
@@ -112,7 +111,7 @@ pub fn case(rt: &impl Print, t: Tally, what: What, line: &[u8]) -> io::Result<Ta
     let mut given = [0u8; 16];
     let mut want = [0u8; 16];
     let mut numbers = [0u32; 16];
-    let read = operands::read(
+    let Ok(read) = operands::read(
         line,
         0,
         3,
@@ -121,10 +120,9 @@ pub fn case(rt: &impl Print, t: Tally, what: What, line: &[u8]) -> io::Result<Ta
         &mut given,
         &mut want,
         &mut numbers,
-    );
-    if read.fault != 0 {
+    ) else {
         return no_case(rt, t);
-    }
+    };
     in_rooms(
         rt,
         t,

@@ -2,10 +2,7 @@
 use mathlib.Core.Path.{◌∙◌}
 use native.Mathlib.Omega.{arith}
 use borrow.Author.Rules.{rules}
-use Rattle.layer.specs.Object.{verdict}
-use Rattle.strip.specs.Shapes.{layer_shape}
-use Rattle.host.proofs.Carries.{carried}
-use Rattle.host.proofs.Tells.{layer_said}
+use Rattle.lichenhusk.proofs.Carries.{layer_carried}
 use Rattle.ask.proofs.layer.Statement.{statement}
 use Rattle.ask.proofs.layer.Tie as tie
 
@@ -14,6 +11,4 @@ layer_spec =
     tie.close
     (tie.spec
     (λ c. search rules) (λ c κs. search rules) (λ c. search rules) (λ c κs. search rules)
-    (λ c. let a = c.args in
-    let said = layer_said a.dict.now a.object.now in
-    c.read.ensures ∙ carried layer_shape (verdict a.dict.now a.object.now) c.lichenhusk_layer.ensures (omega arith) said.0))  -- returns
+    (λ c. c.read.ensures ∙ layer_carried c.args.dict.now c.args.object.now c.lichenhusk_layer.ensures (omega arith)))  -- returns

@@ -2,10 +2,7 @@
 use mathlib.Core.Path.{◌∙◌}
 use native.Mathlib.Omega.{arith}
 use borrow.Author.Rules.{rules}
-use Rattle.nodes.specs.Tree.{verdict}
-use Rattle.strip.specs.Shapes.{tree_shape}
-use Rattle.host.proofs.Carries.{carried}
-use Rattle.host.proofs.Trees.{tree_said}
+use Rattle.lichenhusk.proofs.Carries.{tree_carried}
 use Rattle.ask.proofs.tree.Statement.{statement}
 use Rattle.ask.proofs.tree.Tie as tie
 
@@ -14,7 +11,4 @@ tree_spec =
     tie.close
     (tie.spec
     (λ c. search rules) (λ c. search rules) (λ c κs. search rules) (λ c. search rules) (λ c κs. search rules)
-    (λ c. let a = c.args in
-    let said = tree_said a.dict.now a.value.now in
-    let told = c.lichenhusk_tree.ensures in
-    c.read.ensures ∙ carried tree_shape (verdict a.dict.now a.value.now) told.strip_left (omega arith) said.0))  -- returns
+    (λ c. c.read.ensures ∙ tree_carried c.args.dict.now c.args.value.now c.lichenhusk_tree.ensures (omega arith)))  -- returns

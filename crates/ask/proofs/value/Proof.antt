@@ -2,11 +2,7 @@
 use mathlib.Core.Path.{◌∙◌}
 use native.Mathlib.Omega.{arith}
 use borrow.Author.Rules.{rules}
-use Rattle.value.specs.Reading.{reading}
-use Rattle.value.specs.Answers.{value_numbers}
-use Rattle.strip.specs.Shapes.{value_shape}
-use Rattle.host.proofs.Carries.{carried}
-use Rattle.host.proofs.Values.{value_said}
+use Rattle.lichenhusk.proofs.Carries.{value_carried}
 use Rattle.ask.proofs.value.Statement.{statement}
 use Rattle.ask.proofs.value.Tie as tie
 
@@ -15,7 +11,5 @@ value_spec =
     tie.close
     (tie.spec
     (λ c. search rules) (λ c κs. search rules) (λ c. search rules) (λ c κs. search rules)
-    (λ c. let a = c.args in
-    let known = c.shared_slice_known-1.given in
-    let said = value_said a.value.now (λ k. omega (arith, known k)) in
-    c.read.ensures ∙ carried value_shape (value_numbers (reading a.value.now)) c.lichenhusk_value.ensures (omega arith) said.0))  -- returns
+    (λ c. let known = c.shared_slice_known-1.given in
+    c.read.ensures ∙ value_carried c.args.value.now (λ k. omega (arith, known k)) c.lichenhusk_value.ensures (omega arith)))  -- returns

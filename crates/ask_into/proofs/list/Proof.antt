@@ -3,10 +3,7 @@ use mathlib.Core.Path.{◌∙◌}
 use native.Mathlib.Omega.{arith}
 use borrow.Author.Rules.{rules}
 use Rattle.lichenhusk.specs.Strip.{filled_after}
-use Rattle.listing.specs.Words.{listed}
-use Rattle.strip.specs.Shapes.{layer_shape}
-use Rattle.host.proofs.Carries.{carried}
-use Rattle.host.proofs.Tells.{list_said}
+use Rattle.lichenhusk.proofs.Carries.{list_carried}
 use Rattle.ask_into.proofs.list.Statement.{statement}
 use Rattle.ask_into.proofs.list.Tie as tie
 
@@ -18,6 +15,4 @@ list_spec =
     (λ c. search rules) (λ c κs. search rules) (λ c. search rules) (λ c κs. search rules) (λ c. search rules)
     (λ c. let a = c.args in
     let told = c.lichenhusk_list.ensures in
-    let said = list_said a.dict.now a.object.now a.words.now in
-    let six = carried layer_shape (listed a.dict.now a.object.now a.words.now) told.strip_left (omega arith) said.0 in
-    (c.read.ensures ∙ six, told.words_left)))  -- returns
+    (c.read.ensures ∙ list_carried a.dict.now a.object.now a.words.now told (omega arith), told.words_left)))  -- returns

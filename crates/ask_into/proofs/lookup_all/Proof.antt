@@ -2,11 +2,8 @@
 use mathlib.Core.Path.{◌∙◌}
 use native.Mathlib.Omega.{arith}
 use borrow.Author.Rules.{rules}
-use Rattle.many.specs.Many.{lookups}
-use Rattle.strip.specs.Shapes.{layer_shape}
 use Rattle.lichenhusk.specs.Strip.{filled_after}
-use Rattle.host.proofs.Carries.{carried}
-use Rattle.host.proofs.All.{all_said}
+use Rattle.lichenhusk.proofs.Carries.{all_carried}
 use Rattle.ask_into.proofs.lookup_all.Statement.{statement}
 use Rattle.ask_into.proofs.lookup_all.Tie as tie
 
@@ -17,8 +14,5 @@ lookup_all_spec =
     (tie.spec
     (λ c. search rules) (λ c κs. search rules) (λ c. search rules) (λ c κs. search rules) (λ c. search rules)
     (λ c. let a = c.args in
-    let told = c.lichenhusk_lookup_all.ensures in (
-      λ few. let fits = (all_said a.dict.now a.object.now a.names.now a.ends.now a.words.now few).0 in
-          c.read.ensures ∙ carried layer_shape (lookups a.dict.now a.object.now a.names.now a.ends.now a.words.now) told.strip_left (omega arith) fits,
-      told.words_left,
-    )))  -- returns
+    let told = c.lichenhusk_lookup_all.ensures in
+    ((λ few. c.read.ensures ∙ all_carried a.dict.now a.object.now a.names.now a.ends.now a.words.now few told (omega arith)), told.words_left)))  -- returns

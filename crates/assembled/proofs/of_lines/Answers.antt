@@ -9,7 +9,7 @@ returns-clause-assembled g c =
     let w = c.assemble-a in
     let object = of_lines p.new.bytes p.new.words c.args.out.now p.result w.result (p.ensures.gather_promise (omega (arith, c.if-pairs-ne0.false)))
     (omega (arith, p.ensures.len_in_bounds, p.auto, c.word_room-words.type_inv)) w.ensures.result_value w.ensures.out_after c.if-a-ne0.false in
-    λ z. object.0
+    object.0
 
 pub returns-clause-upper_bound : goal.returns-clause-upper_bound
 returns-clause-upper_bound g c =

@@ -1,9 +1,6 @@
--- `run` counts to the number of cases, and no more of them differ than were compared.
-use Rattle.std.proofs.Common.{◌-◌, ◌≤◌, ◌<◌}
+-- `run`: no more cases differ than were compared, and the first is one of them.
+use Rattle.std.proofs.Common.{◌≤◌, ◌<◌, IfSome}
 use Rattle.boundaries.proofs.run.Given as goal
 
 abbrev pub invariant-loop-number : goal.invariant-loop-number
-invariant-loop-number l = (l.differ ≤ l.number) × (l.first < 225224)
-
-abbrev pub decreases-loop-number : goal.decreases-loop-number
-decreases-loop-number l = 225224 - l.number
+invariant-loop-number l = (l.differ ≤ l.number) × IfSome l.first (λ first. first < 225224)

@@ -3,7 +3,4 @@ use Rattle.std.proofs.Common.{◌≤◌}
 use Rattle.decimal.proofs.digits.times.Given as goal
 
 abbrev pub invariant-loop-i : goal.invariant-loop-i
-invariant-loop-i l = (l.i ≤ 800) × (l.carry ≤ 500000)
-
-abbrev pub decreases-loop-i : goal.decreases-loop-i
-decreases-loop-i l = l.i
+invariant-loop-i l = l.carry ≤ 500000

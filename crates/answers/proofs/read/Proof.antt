@@ -1,7 +1,7 @@
--- `ask::read` meets its contract: word by word. Assumes nothing.
+-- `answers::read` meets its contract: word by word. Assumes nothing.
 use borrow.Author.Rules.{rules}
-use Rattle.ask.proofs.read.Statement.{statement}
-use Rattle.ask.proofs.read.Tie as tie
+use Rattle.answers.proofs.read.Statement.{statement}
+use Rattle.answers.proofs.read.Tie as tie
 
 pub read_spec : {M : Type 1} → statement M
 read_spec =
