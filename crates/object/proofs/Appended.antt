@@ -9,17 +9,16 @@ use Rattle.dictionary.specs.Dictionary as dictionary
 use Rattle.metadata.proofs.Means as dictionary-means
 use Rattle.metadata.proofs.Appended as dictionary-appended
 use Rattle.dictionary.specs.declared.Header.{Header}
+use Rattle.std.specs.Prelude.{Result, Ok, Err}
 use Rattle.dictionary.specs.declared.Refusal as dictionary-refusal
-use Rattle.dictionary.specs.declared.Head as dictionary-head
-use Rattle.dictionary.specs.declared.Head.TheVariants as dictionary-variants
+use Rattle.layer.specs.declared.Refusal.{Refusal}
+use Rattle.object.specs.declared.Message.{Message}
 use Rattle.layer.specs.declared.Layer.{Layer}
 use Rattle.layer.specs.Object.{basic_type, offset_width, id_width, count_width, count, ids_start, id, offsets_start, offset, start, end, field_name}
 use Rattle.layer.specs.Object.{head_rules, name_rules, offset_rules, checks, checks_within, layer, verdict, verdict_within}
 use Rattle.layer.specs.Answers.{refusal_number}
 use Rattle.layer.specs.Steps.{LayerOf}
 use Rattle.layer.proofs.Laws.{ids_before, offsets_before, id_inside, offset_inside}
-use Rattle.object.specs.declared.Opening.{Opening}
-use Rattle.object.specs.declared.Opening.TheVariants as opening
 use Rattle.object.specs.Steps.{OpeningOf}
 use Rattle.object.proofs.Means.{good}
 use Rattle.object.proofs.Pinned.{layer_is, message_by, open_pinned}
@@ -43,11 +42,11 @@ unlifted c s =
     rw (ne_eqb c 11 s.not_empty_dictionary, ne_eqb c 13 s.not_short_dictionary, ne_eqb c 21 s.not_empty, ne_eqb c 23 s.not_short)
 
 -- the number of what `open` answers
-abbrev pub opening_code : Opening → ℕ
-opening_code (opening.Refused r) = refusal_number r
-opening_code (opening.Open m) = 0
+abbrev pub opening_code : Result Message Refusal → ℕ
+opening_code (Err r) = refusal_number r
+opening_code (Ok m) = 0
 
-never : {h : Header} {q : dictionary-refusal.Refusal} → ◌≡◌ {A = dictionary-head.Head} (dictionary-variants.Good h) (dictionary-variants.Refused q) → ⊥
+never : {h : Header} {q : dictionary-refusal.Refusal} → ◌≡◌ {A = Result Header dictionary-refusal.Refusal} (Ok h) (Err q) → ⊥
 never e = let z : ◌≡◌ {A = ℕ} 0 1 = cc in omega arith
 
 neither : (a b : Bool) → (a || b) ≡ false → (a ≡ false) × (b ≡ false)
@@ -207,14 +206,14 @@ module _ (d t o u : List ℕ) where
         ∙ rw (id_width_same o u one, offset_width_same o u one, count_same o u counts, ids_same o u one, offsets_same o u counts, start_same o u counts)
         (rw (end_same o u placed) (layer_is o l a))
 
-    pub open_appended : (r r' : Opening) → Settled (opening_code r) → OpeningOf d o r → OpeningOf (d ++ t) (o ++ u) r' → r' ≡ r
-    open_appended (opening.Refused q) r' s a b = open_pinned (d ++ t) (o ++ u) r' (opening.Refused q) b ((rw a at checks_kept) (unlifted _ s))
-    open_appended (opening.Open m) (opening.Refused q) s a b =
+    pub open_appended : (r r' : Result Message Refusal) → Settled (opening_code r) → OpeningOf d o r → OpeningOf (d ++ t) (o ++ u) r' → r' ≡ r
+    open_appended (Err q) r' s a b = open_pinned (d ++ t) (o ++ u) r' (Err q) b ((rw a at checks_kept) (unlifted _ s))
+    open_appended (Ok m) (Err q) s a b =
         let passing : checks (d ++ t) (o ++ u) ≡ pass = rw a.passes at checks_kept in
         let z : ◌≡◌ {A = ℕ} 0 1 = cc in absurd (omega arith)
-    open_appended (opening.Open m) (opening.Open m') s a b =
-        let was = dictionary-variants.Good m.header in
-        let is = dictionary-variants.Good m'.header in
+    open_appended (Ok m) (Ok m') s a b =
+        let was : Result Header dictionary-refusal.Refusal = Ok m.header in
+        let is : Result Header dictionary-refusal.Refusal = Ok m'.header in
         let heads : is ≡ was = dictionary-appended.checked_appended d t was is dictionary-limit never never a.over b.over in
         let g = good d o a.passes in
-        ap opening.Open (message_by m' m (cc) (layer_kept m.layer m'.layer (omega arith) a.layered b.layered))
+        ap Ok (message_by m' m (cc) (layer_kept m.layer m'.layer (omega arith) a.layered b.layered))

@@ -1,13 +1,13 @@
 -- Where its header passes, an object's checks look at its own bytes alone: what is added after it changes nothing. And over a dictionary that
 -- passes, bytes added to the dictionary change nothing. Assumes nothing.
-use Rattle.rules.proofs.Prelude.{◌≡◌, refl, sym, ◌∙◌, List, [], ◌++◌, ℕ, ◌≤◌, arith, length, Found, Passed, first, ◌or_else◌, pass, stop, stops, goes}
+use Rattle.rules.proofs.Prelude.{◌≡◌, refl, sym, ◌∙◌, List, [], ◌++◌, ℕ, ◌≤◌, arith, length, Found, Passed, first, pass, stop, goes}
 use Rattle.rules.proofs.Prelude.{first_pass, passed, kept}
 use mathlib.Core.List.{append-nil}
 use Rattle.dictionary.specs.Limits.{limit}
 use Rattle.dictionary.specs.Dictionary as dictionary
 use Rattle.layer.specs.Object.{head_rules, checks, checks_within}
 use Rattle.layer.proofs.Laws.{by_head}
-use Rattle.object.proofs.Appended.{lifted_here, fields, own, head_kept, fields_same}
+use Rattle.object.proofs.Appended.{lifted_here, fields, head_kept, fields_same}
 
 module _ (d t o u : List ℕ) (over : dictionary.checks d ≡ pass) (over' : dictionary.checks (d ++ t) ≡ pass) where
   by_fields : Passed (head_rules o) → checks d o ≡ fields d o

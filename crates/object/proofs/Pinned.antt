@@ -1,21 +1,16 @@
 -- Each public call's promise fixes its whole answer: two answers that meet it are equal. Each answer is read back
 -- out of document 01's numbers, so no two cases have the same. Assumes nothing.
 use Rattle.rules.proofs.Prelude.{◌≡◌, refl, sym, ap, ap₂, ◌∙◌, cond, List, [], ◌∷◌, ℕ, arith, eqb, Answer, gives}
-use Rattle.dictionary.specs.declared.Head.TheVariants as dictionary-head
+use Rattle.std.specs.Prelude.{Result, Ok, Err}
 use Rattle.metadata.proofs.Pinned.{refusal_by as dictionary_by, refusal_back as dictionary-back, by_back, checked_pinned}
 use Rattle.layer.specs.declared.Refusal.{Refusal}
 use Rattle.layer.specs.declared.Refusal.TheVariants.{Dictionary, TooLong, Empty, BasicType, Short, Sum, NoSuchEntry, NotAbove, Offset, EmptyChild}
 use Rattle.layer.specs.declared.Layer.{Layer}
-use Rattle.layer.specs.declared.Head.{Head}
-use Rattle.layer.specs.declared.Head.TheVariants as head
 use Rattle.layer.specs.Object.{offset_width, id_width, count, ids_start, offsets_start, start, end}
 use Rattle.layer.specs.Answers.{refusal_number, refusal_place}
 use Rattle.layer.specs.Steps.{LayerOf}
-use Rattle.object.specs.declared.Verdict.{Verdict}
-use Rattle.object.specs.declared.Verdict.TheVariants as verdict
+use Rattle.object.specs.declared.Accepted.{Accepted}
 use Rattle.object.specs.declared.Message.{Message}
-use Rattle.object.specs.declared.Opening.{Opening}
-use Rattle.object.specs.declared.Opening.TheVariants as opening
 use Rattle.object.specs.Answers.{verdict_numbers}
 use Rattle.object.specs.Promises.{CheckPromise}
 use Rattle.object.specs.Steps.{CheckedOf, MessageOf, OpeningOf}
@@ -51,18 +46,21 @@ refusal_injective r q c p =
     sym (refusal_back (λ x. x) TooLong r) ∙ ap₂ (refusal_by (λ x. x) TooLong) c p ∙ refusal_back (λ x. x) TooLong q
 
 -- ANSWERS
-verdict_back : Answer → Verdict
-verdict_back (gives c (n ∷ v ∷ e ∷ x) p) = verdict.Accepted n v e
-verdict_back (gives c (n ∷ v ∷ []) p) = verdict.Accepted n v 0
-verdict_back (gives c (n ∷ []) p) = verdict.Accepted n 0 0
-verdict_back (gives c [] p) = refusal_by verdict.Refused (verdict.Accepted 0 0 0) c p
+abbrev none : Accepted
+none = record { count = 0; start = 0; end = 0 }
 
-verdict_back_law : (v : Verdict) → verdict_back (verdict_numbers v) ≡ v
+verdict_back : Answer → Result Accepted Refusal
+verdict_back (gives c (n ∷ v ∷ e ∷ x) p) = Ok (record { count = n; start = v; end = e })
+verdict_back (gives c (n ∷ v ∷ []) p) = Ok (record { count = n; start = v; end = 0 })
+verdict_back (gives c (n ∷ []) p) = Ok (record { count = n; start = 0; end = 0 })
+verdict_back (gives c [] p) = refusal_by Err (Ok none) c p
+
+verdict_back_law : (v : Result Accepted Refusal) → verdict_back (verdict_numbers v) ≡ v
 unfolding verdict_back
-verdict_back_law (verdict.Refused r) = refusal_back verdict.Refused (verdict.Accepted 0 0 0) r
-verdict_back_law (verdict.Accepted n v e) = refl
+verdict_back_law (Err r) = refusal_back Err (Ok none) r
+verdict_back_law (Ok a) = refl
 
-pub verdict_injective : (v u : Verdict) → verdict_numbers v ≡ verdict_numbers u → v ≡ u
+pub verdict_injective : (v u : Result Accepted Refusal) → verdict_numbers v ≡ verdict_numbers u → v ≡ u
 verdict_injective = by_back verdict_numbers verdict_back verdict_back_law
 
 -- NUMBERS HANDED ON: the one layer and the one message that meet their promise
@@ -76,21 +74,21 @@ message_by m n h l = ap₂ (λ x y. record { header = x; layer = y }) h l
 
 message_pinned : (d o : List ℕ) (m n : Message) → MessageOf d o m → MessageOf d o n → m ≡ n
 message_pinned d o m n a b =
-    let heads = checked_pinned d (dictionary-head.Good m.header) (dictionary-head.Good n.header) a.over b.over in
+    let heads = checked_pinned d (Ok m.header) (Ok n.header) a.over b.over in
     message_by m n (cc) (sym (layer_is o m.layer a.layered) ∙ layer_is o n.layer b.layered)
 
 -- THE THEOREMS, a call each
-pub check_layer_pinned : (d o : List ℕ) (r q : Head) → CheckedOf d o r → CheckedOf d o q → r ≡ q
-check_layer_pinned d o (head.Refused r) (head.Refused q) a b = ap head.Refused (refusal_injective r q (cc) (cc))
-check_layer_pinned d o (head.Refused r) (head.Good n) a b = let c = b.1 in let z : ◌≡◌ {A = ℕ} 0 1 = cc in absurd (omega arith)
-check_layer_pinned d o (head.Good l) (head.Refused q) a b = let c = a.1 in let z : ◌≡◌ {A = ℕ} 0 1 = cc in absurd (omega arith)
-check_layer_pinned d o (head.Good l) (head.Good n) a b = ap head.Good (sym (layer_is o l a.0) ∙ layer_is o n b.0)
+pub check_layer_pinned : (d o : List ℕ) (r q : Result Layer Refusal) → CheckedOf d o r → CheckedOf d o q → r ≡ q
+check_layer_pinned d o (Err r) (Err q) a b = ap Err (refusal_injective r q (cc) (cc))
+check_layer_pinned d o (Err r) (Ok n) a b = let c = b.1 in let z : ◌≡◌ {A = ℕ} 0 1 = cc in absurd (omega arith)
+check_layer_pinned d o (Ok l) (Err q) a b = let c = a.1 in let z : ◌≡◌ {A = ℕ} 0 1 = cc in absurd (omega arith)
+check_layer_pinned d o (Ok l) (Ok n) a b = ap Ok (sym (layer_is o l a.0) ∙ layer_is o n b.0)
 
-pub open_pinned : (d o : List ℕ) (r q : Opening) → OpeningOf d o r → OpeningOf d o q → r ≡ q
-open_pinned d o (opening.Refused r) (opening.Refused q) a b = ap opening.Refused (refusal_injective r q (cc) (cc))
-open_pinned d o (opening.Refused r) (opening.Open n) a b = let c = b.passes in let z : ◌≡◌ {A = ℕ} 0 1 = cc in absurd (omega arith)
-open_pinned d o (opening.Open m) (opening.Refused q) a b = let c = a.passes in let z : ◌≡◌ {A = ℕ} 0 1 = cc in absurd (omega arith)
-open_pinned d o (opening.Open m) (opening.Open n) a b = ap opening.Open (message_pinned d o m n a b)
+pub open_pinned : (d o : List ℕ) (r q : Result Message Refusal) → OpeningOf d o r → OpeningOf d o q → r ≡ q
+open_pinned d o (Err r) (Err q) a b = ap Err (refusal_injective r q (cc) (cc))
+open_pinned d o (Err r) (Ok n) a b = let c = b.passes in let z : ◌≡◌ {A = ℕ} 0 1 = cc in absurd (omega arith)
+open_pinned d o (Ok m) (Err q) a b = let c = a.passes in let z : ◌≡◌ {A = ℕ} 0 1 = cc in absurd (omega arith)
+open_pinned d o (Ok m) (Ok n) a b = ap Ok (message_pinned d o m n a b)
 
-pub check_pinned : (d o : List ℕ) (r q : Verdict) → CheckPromise d o r → CheckPromise d o q → r ≡ q
+pub check_pinned : (d o : List ℕ) (r q : Result Accepted Refusal) → CheckPromise d o r → CheckPromise d o q → r ≡ q
 check_pinned d o r q a b = verdict_injective r q (a ∙ sym b)

@@ -4,7 +4,9 @@ use Rattle.rules.proofs.Prelude.{◌≡◌, sym, ◌∙◌, List, ℕ, ◌≤◌
 use Rattle.dictionary.specs.Dictionary as dictionary
 use Rattle.metadata.proofs.Raised as dictionary-raised
 use Rattle.layer.specs.Object.{head_rules_within, checks_within, verdict_within}
-use Rattle.object.specs.declared.Verdict.{Verdict}
+use Rattle.std.specs.Prelude.{Result}
+use Rattle.layer.specs.declared.Refusal.{Refusal}
+use Rattle.object.specs.declared.Accepted.{Accepted}
 use Rattle.object.specs.Answers.{verdict_numbers}
 use Rattle.object.proofs.Pinned.{verdict_injective}
 
@@ -26,7 +28,7 @@ module _ (a b : ℕ) (d o : List ℕ) (in-a : Within a d o) (in_b : Within b d o
   verdict_alike = rw checks_alike
 
   -- the answer of the call
-  pub check_alike : (r q : Verdict) → verdict_numbers r ≡ verdict_within a d o → verdict_numbers q ≡ verdict_within b d o → r ≡ q
+  pub check_alike : (r q : Result Accepted Refusal) → verdict_numbers r ≡ verdict_within a d o → verdict_numbers q ≡ verdict_within b d o → r ≡ q
   check_alike r q x y = verdict_injective r q (x ∙ verdict_alike ∙ sym y)
 
 -- PAST A LIMIT

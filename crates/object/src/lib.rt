@@ -5,18 +5,30 @@ ghost use Rattle.fields.specs.Steps.{Over};
 ghost use Rattle.object.specs.Promises.{CheckPromise};
 ghost use Rattle.object.specs.Steps.{CheckedOf, OpeningOf};
 
-use columns::Outcome;
 use fields::check_rest;
-use layer::{Head, Layer, Refusal, read_header};
+use layer::{Layer, Refusal, read_header};
 
-#[derive(Drop)]
-pub enum Verdict {
-    Refused(Refusal),
-    Accepted {
-        count: usize,
-        start: usize,
-        end: usize,
-    },
+// What is told of an accepted layer: its field count, the start of its region, and the trimmed end.
+#[derive(Clone, Copy)]
+pub struct Accepted {
+    pub count: usize,
+    pub start: usize,
+    pub end: usize,
+}
+
+impl From<Layer> for Accepted {
+    ghost use Rattle.std.specs.Prelude.{◌≡◌};
+    ghost use Rattle.object.specs.Answers.{accepted};
+
+    ghost from_gives = { λ l a. a ≡ accepted l };
+
+    fn from(l: Layer) -> Accepted {
+        Accepted {
+            count: l.count,
+            start: l.start,
+            end: l.end,
+        }
+    }
 }
 
 // A dictionary and an object that passed all checks.
@@ -26,65 +38,30 @@ pub struct Message {
     pub layer: Layer,
 }
 
-#[derive(Drop)]
-pub enum Opening {
-    Refused(Refusal),
-    Open(Message),
-}
-
-// All checks of the layer, over a dictionary that passed its own: those it does not test again. Public with Head for the lookup,
-// which hands the header and the layer on by themselves, not gathered in a Message.
-pub fn check_layer(dict: &[u8], h: dictionary::Header, object: &[u8]) -> Head
+// All checks of the layer, over a dictionary that passed its own: those it does not test again. Public for the lookup, which hands
+// the header and the layer on by themselves, not gathered in a Message.
+pub fn check_layer(dict: &[u8], h: dictionary::Header, object: &[u8]) -> Result<Layer, Refusal>
     requires { Over dict.now h }
     ensures { CheckedOf dict.now object.now result }
 {
-    let head = read_header(object);
-    match head {
-        Head::Refused(r) => Head::Refused(r),
-        Head::Good(l) => {
-            let rest = check_rest(dict, h, object, l);
-            match rest {
-                Outcome::Refused(r) => Head::Refused(r),
-                Outcome::Pass => Head::Good(l),
-            }
-        }
-    }
+    let l = read_header(object)?;
+    check_rest(dict, h, object, l)?;
+    Ok(l)
 }
 
 // All checks, the dictionary's first, and the numbers of both where they pass.
-pub fn open(dict: &[u8], object: &[u8]) -> Opening
+pub fn open(dict: &[u8], object: &[u8]) -> Result<Message, Refusal>
     ensures { OpeningOf dict.now object.now result }
 {
-    let head = metadata::checked(dict);
-    match head {
-        dictionary::Head::Refused(r) => Opening::Refused(Refusal::Dictionary(r)),
-        dictionary::Head::Good(h) => {
-            let layer = check_layer(dict, h, object);
-            match layer {
-                Head::Refused(r) => Opening::Refused(r),
-                Head::Good(l) => Opening::Open(Message {
-                    header: h,
-                    layer: l,
-                }),
-            }
-        }
-    }
+    let header = metadata::checked(dict)?;
+    let layer = check_layer(dict, header, object)?;
+    Ok(Message { header, layer })
 }
 
 // The verdict on an object layer.
-pub fn check(dict: &[u8], object: &[u8]) -> Verdict
+pub fn check(dict: &[u8], object: &[u8]) -> Result<Accepted, Refusal>
     ensures { CheckPromise dict.now object.now result }
 {
-    let opening = open(dict, object);
-    match opening {
-        Opening::Refused(r) => Verdict::Refused(r),
-        Opening::Open(m) => {
-            let l = m.layer;
-            Verdict::Accepted {
-                count: l.count,
-                start: l.start,
-                end: l.end,
-            }
-        }
-    }
+    let m = open(dict, object)?;
+    Ok(Accepted::from(m.layer))
 }
