@@ -24,15 +24,12 @@ pub fn check(run: &[u8], ends: &[u32]) -> Result<(), BadName>
     ensures { CheckPromise run.now ends.now result }
 {
     let mut begin = 0;
-    let mut k = 0;
-    while k < ends.len() {
-        let end = ends[k] as usize;
-        if is_good(run, begin, end) {
-            begin = end;
-            k += 1;
-        } else {
-            return Err(BadName { number: k });
+    for (number, &end) in ends.iter().enumerate() {
+        let end = end as usize;
+        if !is_good(run, begin, end) {
+            return Err(BadName { number });
         }
+        begin = end;
     }
     Ok(())
 }

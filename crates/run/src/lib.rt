@@ -14,17 +14,15 @@ pub fn check(run: &[u8], ends: &[u32]) -> Result<(), BadName>
     ensures { CheckPromise run.now ends.now result }
 {
     let mut begin = 0;
-    let mut k = 0;
-    while k < ends.len() {
-        let end = ends[k] as usize;
+    for (number, &end) in ends.iter().enumerate() {
+        let end = end as usize;
         if end < begin {
-            return Err(BadName { number: k });
+            return Err(BadName { number });
         }
         if run.len() < end {
-            return Err(BadName { number: k });
+            return Err(BadName { number });
         }
         begin = end;
-        k += 1;
     }
     Ok(())
 }

@@ -1,15 +1,16 @@
--- `run::check` meets its contract: the ends before k are good, and name k begins where the last of them is. Assumes nothing.
-use Rattle.rules.proofs.Prelude.{◌≡◌, refl, sym, ◌∙◌, List, ℕ, ◌+◌, ◌-◌, ◌≤◌, ◌<◌, arith, rules, length, first, each, pass, stop, each_none, each_more, each_stop, first_at, first_pass}
+-- `run::check` meets its contract: the ends before one are good, and its name begins where the last of them is. Assumes nothing.
+use Rattle.rules.proofs.Prelude.{◌≡◌, refl, sym, ◌∙◌, List, ℕ, ◌+◌, ◌-◌, ◌≤◌, ◌<◌, arith, length, first, each, pass, stop, each_none, each_more, each_stop, first_at, first_pass}
 use Rattle.run.specs.Run.{begin as begin_of, end as end_of, end_rules, checks}
 use Rattle.run.proofs.Means.{next}
 use Rattle.run.proofs.check.Statement.{statement}
 use Rattle.run.proofs.check.Tie as tie
 
-abbrev invariant_loop : tie.invariant-loop-k
-invariant_loop run ends begin₀ k₀ begin k = (k ≤ length ends) × (begin ≡ begin_of ends k) × (first (each (end_rules run ends) k) ≡ pass)
+abbrev invariant_loop : tie.invariant-loop-number
+invariant_loop run ends begin₀ number₀ last begin number =
+    (number ≤ length ends) × (begin ≡ begin_of ends number) × (first (each (end_rules run ends) number) ≡ pass)
 
-abbrev decreases_loop : tie.decreases-loop-k
-decreases_loop run ends begin₀ k₀ begin k = length ends - k
+abbrev decreases_loop : tie.decreases-loop-number
+decreases_loop run ends begin₀ number₀ last begin number = length ends - number
 
 -- an end that falls or passes the run stops
 stopped : (run ends : List ℕ) (k : ℕ) → k < length ends → first (each (end_rules run ends) k) ≡ pass → (begin_of ends k ≤ end_of ends k → length run < end_of ends k)
@@ -31,14 +32,13 @@ check_spec =
     invariant_loop
     decreases_loop
     (λ c. (omega arith, refl, each_none _))  -- loop-holds
-    (λ c. search rules) (λ c. search rules)
-    (λ c. omega (arith, c.shared_slice_known-1.given c.loop-k.k))  -- cast-end
-    (λ c. let l = c.loop-k in stopped _ _ l.k (omega arith) l.invariant.2 (λ f. absurd (omega arith)))  -- returns
-    (λ c. let l = c.loop-k in stopped _ _ l.k (omega arith) l.invariant.2 (λ _. omega arith))  -- returns-2
     (λ c. omega arith) (λ c. omega arith)
-    (λ c. let l = c.loop-k in
+    (λ c. let l = c.loop-number in stopped _ _ l.number (omega arith) l.invariant.2 (λ f. absurd (omega arith)))  -- returns
+    (λ c. let l = c.loop-number in stopped _ _ l.number (omega arith) l.invariant.2 (λ _. omega arith))  -- returns-2
+    (λ c. omega arith) (λ c. omega arith)
+    (λ c. let l = c.loop-number in
     let a = c.args in
-    (omega arith, next a.ends.now l.k, goes_on a.run.now a.ends.now l.k l.invariant.2 (omega arith) (omega arith)))  -- loop-again
-    (λ c. let l = c.loop-k in
-    let all : l.k ≡ length c.args.ends.now = omega arith in
+    (omega arith, next a.ends.now l.number, goes_on a.run.now a.ends.now l.number l.invariant.2 (omega arith) (omega arith)))  -- loop-again
+    (λ c. let l = c.loop-number in
+    let all : l.number ≡ length c.args.ends.now = omega arith in
     sym (rw all at l.invariant.2)))  -- returns-3
