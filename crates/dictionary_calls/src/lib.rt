@@ -3,6 +3,7 @@
 
 ghost use Rattle.dictionary_calls.specs.Promises.{DictionaryPromise, NamePromise, EmptyPromise};
 
+use metadata::NoRoom;
 use strip::STRIP;
 
 // Dictionary verdict: entry count, 0, 0, trimmed end.
@@ -31,9 +32,8 @@ pub fn name(dict: &[u8], entry: usize, strip: &mut [u8]) -> u32
 pub fn empty(room: &mut [u8]) -> u32
     ensures { EmptyPromise room.old result room.new }
 {
-    let written = metadata::write_empty(room);
-    match written {
-        metadata::Written::NoRoom => 42,
-        metadata::Written::Written => 0,
+    match metadata::write_empty(room) {
+        Ok(()) => 0,
+        Err(NoRoom) => 42,
     }
 }

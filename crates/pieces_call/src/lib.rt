@@ -9,10 +9,7 @@ ghost use Rattle.pieces.specs.Feed.{fed_numbers};
 ghost use Rattle.pieces_call.specs.Promises.{BeginPromise, FeedPromise};
 
 use pieces::Fed;
-use strip::{STRIP, Words};
-
-// The code of a state that wants more.
-const MORE: u32 = 3;
+use strip::{MORE, STRIP, Words};
 
 fn more(held: usize, wanted: usize) -> Words
     ensures { list_of result ≡ words_of dictionary_shape (more_of held wanted) }

@@ -8,6 +8,9 @@ ghost use Rattle.strip.specs.Steps.{list_of, Wrote};
 // The bytes of a strip, below which the answer of every call is 40.
 pub const STRIP: usize = 24;
 
+// The code of a dictionary in pieces that wants more.
+pub const MORE: u32 = 3;
+
 // The six numbers of a strip.
 #[derive(Clone, Copy)]
 pub struct Words {
@@ -36,14 +39,7 @@ pub fn refusal(code: u32, place: usize) -> Words
 pub fn from(start: usize, w: Words) -> Words
     ensures { list_of result ≡ set (list_of w) 3 start }
 {
-    Words {
-        code: w.code,
-        number: w.number,
-        id: w.id,
-        start,
-        end: w.end,
-        place: w.place,
-    }
+    Words { start, ..w }
 }
 
 pub fn answer(number: usize, id: usize, start: usize, end: usize) -> Words
