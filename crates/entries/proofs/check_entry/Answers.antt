@@ -1,5 +1,5 @@
 -- `entries::check_entry` meets its contract: each refusal is the first row that holds. Assumes nothing.
-use Rattle.rules.proofs.Prelude.{◌≡◌, ◌∙◌, ◌+◌, ◌-◌, List, ℕ, arith, rules, first, Fails, first_at, first_pass, ◌&◌}
+use Rattle.rules.proofs.Prelude.{◌≡◌, ◌∙◌, ◌+◌, ◌-◌, List, ℕ, arith, first, Fails, first_at, first_pass, ◌&◌}
 use Rattle.dictionary.specs.declared.Header.{Header}
 use Rattle.dictionary.specs.Dictionary.{offset, region, cuts, entry_rows, entry_rules}
 use Rattle.dictionary.specs.Steps.{HeaderOf}
@@ -37,7 +37,7 @@ returns c =
     let above = rw c.if-not_above.false at c.not_above.ensures in
     let k-is : c.args.k + 1 - 1 ≡ c.args.k = omega arith in (
       rows _ c.args.region.now c.args.h s.0 s.1 s.3 e-is
-      ∙ first_pass _ ((start_whole _ c.args.region.now c.args.h s.0 s.1 s.3 e-is & range) & above & tt),
+          ∙ first_pass _ ((start_whole _ c.args.region.now c.args.h s.0 s.1 s.3 e-is & range) & above & tt),
       record {
         before_is = rw k-is s.3.start_is;
         start_is = e-is;

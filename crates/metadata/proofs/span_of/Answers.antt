@@ -1,5 +1,5 @@
 -- `metadata::span_of` meets its contract: a checked dictionary's offsets do not fall and stay in the region. Assumes nothing.
-use Rattle.rules.proofs.Prelude.{arith, rules}
+use Rattle.rules.proofs.Prelude.{arith}
 use Rattle.dictionary.proofs.Laws.{end_is, region_length, name_part}
 use Rattle.metadata.proofs.Means.{good}
 use Rattle.metadata.proofs.span_of.Goals as goal

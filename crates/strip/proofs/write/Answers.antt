@@ -1,5 +1,5 @@
 -- `strip::write` meets its contract: six words are set, one after another. Assumes nothing.
-use Rattle.rules.proofs.Prelude.{refl, ◌∙◌, rules, sets-eq}
+use Rattle.rules.proofs.Prelude.{refl, ◌∙◌, sets-eq}
 use Rattle.width.specs.Width.{bytes_of}
 use Rattle.strip.specs.Shapes.{bytes_of_words}
 use Rattle.strip.specs.Steps.{list_of}
