@@ -12,14 +12,12 @@ fn compare_bytes(a: &[u8], b: &[u8], shared: usize) -> Ordering
     requires { shared ≡ min (length a.now) (length b.now) }
     ensures { ComparePromise a.now b.now result }
 {
-    let mut i = 0;
-    while i < shared {
+    for i in 0..shared {
         let x = a[i];
         let y = b[i];
         if x != y {
             return x.cmp(&y);
         }
-        i += 1;
     }
     a.len().cmp(&b.len())
 }
