@@ -11,7 +11,8 @@ use lib.Dec.{leb}
 use lib.ListN.{length, take, drop, get_or, drop_of_length-le, length-drop}
 use lib.Seq.{drop-cons, take-length}
 use Rattle.std.specs.Prelude.{Option, Some, None}
-use Rattle.rules.proofs.Laws.{false_true, both}
+use Rattle.rules.specs.Rules.Test.{is}
+use Rattle.rules.proofs.Laws.{false_true, both, unless}
 use Rattle.walk.specs.Walk.{Finds}
 use Rattle.walk.proofs.Laws.{up_to_le, up_to_sound, up_to_left, up_to_longest, up_to_whole}
 use Rattle.leads.specs.declared.Lead.{Lead}
@@ -50,11 +51,6 @@ module _ (l h : ℕ) (at : ℕ) (s : List ℕ) where
   pub tails_none : tails_of l h 0 (drop at s) ≡ true
   unfolding tails_of
   tails_none = refl
-
-  pub tails_cut : (n : ℕ) → 0 < n → length s ≤ at → tails_of l h n (drop at s) ≡ false
-  unfolding tails_of
-  tails_cut zero p q = absurd (omega arith)
-  tails_cut (suc n) p q = rw (drop_of_length-le s q)
 
   pub tails_low : (n : ℕ) → 0 < n → at < length s → get_or s at 0 < l → tails_of l h n (drop at s) ≡ false
   unfolding tails_of
@@ -113,6 +109,9 @@ module _ (at : ℕ) (s : List ℕ) where
 
   pub tails_fit : (l h n : ℕ) → tails_of l h n (drop at s) ≡ true → n ≤ length s - at
   tails_fit l h n e = rw length-drop at (tails_sound l h n (drop at s) e).0
+
+  pub tails_past : (l h n : ℕ) → length s - at < n → tails_of l h n (drop at s) ≡ false
+  tails_past l h n p = unless (is (tails_of l h n (drop at s))) (λ e. omega (arith, tails_fit l h n e))
 
 -- `char` finds the characters
 pub chars : Finds Char char

@@ -1,7 +1,7 @@
 // Characters of UTF-8 by RFC 3629: the one that starts at a place, and whether what is left is the beginning of one.
 #![tactic(auto)]
 
-ghost use Rattle.std.specs.Prelude.{◌≡◌, drop};
+ghost use Rattle.std.specs.Prelude.{◌≡◌, ◌≤◌, drop, length};
 ghost use Rattle.chars.specs.Rfc3629.{tails_of};
 ghost use Rattle.chars.specs.Promises.{CharAtPromise, BeginsAtPromise};
 
@@ -9,27 +9,24 @@ use leads::{Lead, classify};
 
 // Whether `rest` bytes stand at `from`, the first from `first` to `last` and the others from 0x80 to 0xBF.
 fn tails(s: &[u8], from: usize, first: u8, last: u8, rest: usize) -> bool
+    requires { from ≤ length s.now }
     ensures { result ≡ tails_of first last rest (drop from s.now) }
 {
-    let mut at = from;
+    if s.len() - from < rest {
+        return false;
+    }
     let mut lo = first;
     let mut hi = last;
-    let mut left = rest;
-    while 0 < left {
-        if s.len() <= at {
+    for at in from..from + rest {
+        let byte = s[at];
+        if byte < lo {
             return false;
         }
-        let b = s[at];
-        if b < lo {
-            return false;
-        }
-        if hi < b {
+        if hi < byte {
             return false;
         }
         lo = 0x80;
         hi = 0xBF;
-        at += 1;
-        left -= 1;
     }
     true
 }
