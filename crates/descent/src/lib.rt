@@ -6,59 +6,53 @@ ghost use Rattle.std.specs.Prelude.{◌+◌, ◌≤◌, ◌<◌};
 ghost use Rattle.nodes.specs.Steps.{Within, Remembers, CheckOf, Opened};
 
 use encoding::Header;
-use nodes::{Container, Fault, Sound};
-use texts::Span;
+use nodes::{Container, Fault, Sound, Whole};
+use part::Span;
 
-// The value from a to e of the whole, below which `left` levels of containers may come, itself among them. What is good is marked.
+// The value at a range of the whole, below which `left` levels of containers may come, itself among them. What is good is marked.
 #[cycle(descent)]
 pub fn check_value(
-    dict: &[u8],
-    h: dictionary::Header,
-    whole: &[u8],
-    a: usize,
-    e: usize,
+    over: &Whole,
+    at: Span,
     left: usize,
     known: Span,
     marks: &mut [u8],
 ) -> Result<Sound, Fault>
-    requires { Within dict.now h whole.now a e × (left ≤ 32) × Remembers dict.now whole.now marks.old known }
-    ensures { CheckOf dict.now left whole.now a e marks.new result }
+    requires { Within over.now.dict.now over.now.header over.now.value.now at.start at.end × (left ≤ 32) × Remembers over.now.dict.now over.now.value.now marks.old known }
+    ensures { CheckOf over.now.dict.now left over.now.value.now at.start at.end marks.new result }
 {
-    if let Some(height) = nodes::recalled(whole, a, e, left, marks) {
+    if let Some(height) = nodes::recalled(over.value, at, left, marks) {
         return Ok(Sound { height, known });
     }
-    let good = check_new(dict, h, whole, a, e, left, known, marks)?;
-    marks::put(marks, a, good.height + 1);
+    let good = check_new(over, at, left, known, marks)?;
+    marks::put(marks, at.start, good.height + 1);
     Ok(good)
 }
 
 // The same of a value that is not marked, by what its header byte says: of a container come its own checks, and then its children.
 #[cycle(descent)]
 fn check_new(
-    dict: &[u8],
-    h: dictionary::Header,
-    whole: &[u8],
-    a: usize,
-    e: usize,
+    over: &Whole,
+    at: Span,
     left: usize,
     known: Span,
     marks: &mut [u8],
 ) -> Result<Sound, Fault>
-    requires { Within dict.now h whole.now a e × (left ≤ 32) × Remembers dict.now whole.now marks.old known }
-    ensures { CheckOf dict.now left whole.now a e marks.new result }
+    requires { Within over.now.dict.now over.now.header over.now.value.now at.start at.end × (left ≤ 32) × Remembers over.now.dict.now over.now.value.now marks.old known }
+    ensures { CheckOf over.now.dict.now left over.now.value.now at.start at.end marks.new result }
 {
-    match encoding::header_of(part::first_byte(whole, a, e)) {
-        Header::Primitive(_) => nodes::check_leaf(whole, a, e, known),
-        Header::ShortString(_) => nodes::check_leaf(whole, a, e, known),
+    match encoding::header_of(part::first_byte(over.value, at.start, at.end)) {
+        Header::Primitive(_) => nodes::check_leaf(over.value, at, known),
+        Header::ShortString(_) => nodes::check_leaf(over.value, at, known),
         Header::Object(w) => {
-            let below = nodes::below(left, a)?;
-            let c = nodes::open_object(dict, h, whole, a, e, w)?;
-            check_children(dict, h, whole, a, e, c, below, known, marks)
+            let below = nodes::below(left, at.start)?;
+            let c = nodes::open_object(over, at, w)?;
+            check_children(over, at, c, below, known, marks)
         }
         Header::List(w) => {
-            let below = nodes::below(left, a)?;
-            let c = nodes::open_list(whole, a, e, w)?;
-            check_children(dict, h, whole, a, e, c, below, known, marks)
+            let below = nodes::below(left, at.start)?;
+            let c = nodes::open_list(over.value, at, w)?;
+            check_children(over, at, c, below, known, marks)
         }
     }
 }
@@ -66,27 +60,24 @@ fn check_new(
 // The children of a container in order, each with `left` levels. A small leaf is good as it stands, and is not marked.
 #[cycle(descent)]
 fn check_children(
-    dict: &[u8],
-    h: dictionary::Header,
-    whole: &[u8],
-    a: usize,
-    e: usize,
+    over: &Whole,
+    at: Span,
     c: Container,
     left: usize,
     known: Span,
     marks: &mut [u8],
 ) -> Result<Sound, Fault>
-    requires { Within dict.now h whole.now a e × (left < 32) × Remembers dict.now whole.now marks.old known × Opened dict.now whole.now a e c }
-    ensures { CheckOf dict.now (left + 1) whole.now a e marks.new result }
+    requires { Within over.now.dict.now over.now.header over.now.value.now at.start at.end × (left < 32) × Remembers over.now.dict.now over.now.value.now marks.old known × Opened over.now.dict.now over.now.value.now at.start at.end c }
+    ensures { CheckOf over.now.dict.now (left + 1) over.now.value.now at.start at.end marks.new result }
 {
     let mut text = known;
     let mut height = 0;
     for k in 0..c.numbers.count {
-        let child = nodes::child_at(whole, a, e, c, k);
-        if leaf::is_small(whole, child.start, child.end) {
+        let child = nodes::child_at(over.value, at, c, k);
+        if leaf::is_small(over.value, child.start, child.end) {
             continue;
         }
-        let good = check_value(dict, h, whole, child.start, child.end, left, text, marks)?;
+        let good = check_value(over, child, left, text, marks)?;
         height = marks::larger(height, good.height);
         text = good.known;
     }

@@ -6,8 +6,8 @@ ghost use Rattle.marks.specs.Marks.{cleared};
 ghost use Rattle.nodes.specs.Tree.{levels};
 ghost use Rattle.marked.specs.Promises.{CheckAtPromise};
 
-use nodes::{Fault, Refusal};
-use texts::Span;
+use nodes::{Fault, Refusal, Whole};
+use part::Span;
 
 // A container at this depth is refused.
 const LEVELS: usize = 32;
@@ -29,23 +29,23 @@ pub fn check_marked(
     requires { marks.old ≡ cleared marks.old }
     ensures { CheckAtPromise depth dict.now value.now result }
 {
-    let head = metadata::checked(dict);
-    match head {
-        dictionary::Head::Refused(r) => Err(Fault {
-            refusal: Refusal::Layer(layer::Refusal::Dictionary(r)),
+    let header = metadata::checked(dict)?;
+    if dictionary::LIMIT < value.len() {
+        return Err(Fault {
+            refusal: Refusal::Layer(layer::Refusal::TooLong),
             start: 0,
-        }),
-        dictionary::Head::Good(h) => {
-            if dictionary::LIMIT < value.len() {
-                return Err(Fault {
-                    refusal: Refusal::Layer(layer::Refusal::TooLong),
-                    start: 0,
-                });
-            }
-            let none = Span { start: 0, end: 0 };
-            let left = levels_from(depth);
-            descent::check_value(dict, h, value, 0, value.len(), left, none, marks)?;
-            Ok(lengths::bytes_of(lengths::own_length(value)))
-        }
+        });
     }
+    let over = Whole {
+        dict,
+        header,
+        value,
+    };
+    let all = Span {
+        start: 0,
+        end: value.len(),
+    };
+    let none = Span { start: 0, end: 0 };
+    descent::check_value(&over, all, levels_from(depth), none, marks)?;
+    Ok(lengths::bytes_of(lengths::own_length(value)))
 }

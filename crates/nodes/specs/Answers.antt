@@ -3,8 +3,11 @@ use Rattle.std.specs.Prelude.{ℕ}
 use Rattle.layer.specs.Answers as layer
 use Rattle.list.specs.Answers as list
 use Rattle.leaf.specs.Answers as leaf
+use Rattle.dictionary.specs.declared.Refusal.{Refusal as DictionaryRefusal}
+use Rattle.layer.specs.declared.Refusal.TheVariants.{Dictionary}
 use Rattle.nodes.specs.declared.Refusal.{Refusal}
 use Rattle.nodes.specs.declared.Refusal.TheVariants.{Layer, List as OfList, Leaf, TooDeep}
+use Rattle.nodes.specs.declared.Fault.{Fault}
 
 abbrev pub refusal_number : Refusal → ℕ
 refusal_number (Layer r) = layer.refusal_number r
@@ -17,3 +20,7 @@ refusal_place (Layer r) = layer.refusal_place r
 refusal_place (OfList r) = list.refusal_place r
 refusal_place (Leaf r) = 0
 refusal_place TooDeep = 0
+
+-- a dictionary's refusal is of no value: its start is 0
+abbrev pub of_dictionary : DictionaryRefusal → Fault
+of_dictionary r = record { refusal = Layer (Dictionary r); start = 0 }

@@ -17,6 +17,6 @@ decreases-check_value l = 3 * l.left + 1
 abbrev pub invariant-check_children-loop-k : goal.invariant-check_children-loop-k
 invariant-check_children-loop-k l =
     (l.height ≤ l.left)
-    × Before l.dict l.whole l.a l.e l.c l.height l.k
-    × Remembers l.dict l.whole l.marks l.text
+    × Before l.over.dict.now l.over.value.now l.at.start l.at.end l.c l.height l.k
+    × Remembers l.over.dict.now l.over.value.now l.marks l.text
     × (length l.marks ≡ length l.initial.marks)

@@ -2,14 +2,14 @@
 use Rattle.nodes.proofs.Opens.{list_opens, list_refused}
 use Rattle.nodes.proofs.open_list.Goals as goal
 
-pub returns-in-Refused : goal.returns-in-Refused
-returns-in-Refused c d =
+pub returns-in-Err : goal.returns-in-Err
+returns-in-Err c d =
     let x = c.args in
     let p = c.requires in
-    list_refused x.whole.now x.a x.e p.0 p.1 x.w p.3 p.2 d c.in-Refused.ensures
+    list_refused x.whole.now x.at.start x.at.end p.0 p.1 x.w p.3 p.2 d c.in-Err.ensures
 
-pub returns-in-Good : goal.returns-in-Good
-returns-in-Good c d =
+pub returns-in-Ok : goal.returns-in-Ok
+returns-in-Ok c d =
     let x = c.args in
     let p = c.requires in
-    list_opens x.whole.now x.a x.e p.0 p.1 x.w p.3 p.2 d _ c.in-Good.ensures
+    list_opens x.whole.now x.at.start x.at.end p.0 p.1 x.w p.3 p.2 d _ c.in-Ok.ensures

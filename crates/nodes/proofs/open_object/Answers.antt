@@ -2,15 +2,15 @@
 use Rattle.nodes.proofs.Opens.{object_opens, object_refused}
 use Rattle.nodes.proofs.open_object.Goals as goal
 
-pub returns-in-Refused : goal.returns-in-Refused
-returns-in-Refused c =
+pub returns-in-Err : goal.returns-in-Err
+returns-in-Err c =
     let x = c.args in
     let p = c.requires in
-    object_refused x.whole.now x.a x.e p.0.rises p.0.inside x.w p.2 p.1 x.dict.now c.in-Refused.ensures
+    object_refused x.over.now.value.now x.at.start x.at.end p.0.rises p.0.inside x.w p.2 p.1 x.over.now.dict.now c.in-Err.ensures
 
-pub returns-in-Good : goal.returns-in-Good
-returns-in-Good c =
+pub returns-in-Ok : goal.returns-in-Ok
+returns-in-Ok c =
     let x = c.args in
     let p = c.requires in
-    let good = c.in-Good.ensures in
-    object_opens x.whole.now x.a x.e p.0.rises p.0.inside x.w p.2 p.1 x.dict.now _ good.0 good.1
+    let good = c.in-Ok.ensures in
+    object_opens x.over.now.value.now x.at.start x.at.end p.0.rises p.0.inside x.w p.2 p.1 x.over.now.dict.now _ good.0 good.1

@@ -12,6 +12,6 @@ returns-then-is_known c =
     let fits = ap is_known (sym c.own_length.ensures) ∙ sym c.is_known.ensures ∙ c.if-is_known.true in (
       omega arith,
       λ d over limited known.
-          marked_use d x.whole.now over limited x.marks.now known x.a x.e _ _ c.requires.0 c.requires.1
-          c.at-mark.ensures.0 (omega arith) (is_known_law (part x.whole.now x.a x.e) fits),
+          marked_use d x.whole.now over limited x.marks.now known x.at.start x.at.end _ _ c.requires.0 c.requires.1
+          c.at-mark.ensures.0 (omega arith) (is_known_law (part x.whole.now x.at.start x.at.end) fits),
     )
