@@ -134,11 +134,7 @@ pub fn child_at(whole: &[u8], at: Span, c: Container, k: usize) -> Span
 }
 
 // An object's own checks, those of its layer.
-pub fn open_object(
-    over: &Whole,
-    at: Span,
-    w: layout::Widths,
-) -> Result<Container, Fault>
+pub fn open_object(over: &Whole, at: Span, w: layout::Widths) -> Result<Container, Fault>
     requires { Within over.now.dict.now over.now.header over.now.value.now at.start at.end × (head_of (part over.now.value.now at.start at.end) ≡ header.Object w) × Few w }
     ensures { OpeningOf over.now.dict.now over.now.value.now at.start at.end result }
 {
