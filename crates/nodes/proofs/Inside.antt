@@ -1,12 +1,11 @@
 -- The children of an object or a list whose own checks passed lie within it; and such a container has an own length. Assumes nothing.
-use Rattle.rules.proofs.Prelude.{◌≡◌, refl, sym, ap, ◌∙◌, List, ℕ, ◌+◌, ◌≤◌, ◌<◌, arith, length, get_or, Passed, first, pass, passed}
+use Rattle.rules.proofs.Prelude.{◌≡◌, refl, ap, ◌∙◌, List, ℕ, ◌+◌, ◌≤◌, ◌<◌, arith, length, get_or, Passed, pass}
 use Rattle.std.specs.Prelude.{Ok}
 use Rattle.layout.specs.declared.Widths.{Widths}
 use Rattle.layout.specs.Layout as layout
 use Rattle.layout.specs.Layout.{count, child_start, end}
 use Rattle.layout.proofs.Laws.{end_is}
 use Rattle.encoding.specs.declared.Header.TheVariants as header
-use Rattle.encoding.specs.Encoding.{object_widths}
 use Rattle.lengths.specs.Lengths.{own_length, bytes_by}
 use Rattle.lengths.specs.Meaning.{Counted, Encoded}
 use Rattle.encoding.proofs.Laws.{object_says}

@@ -1,16 +1,14 @@
 -- Laws of the tree's check: what a sequence and a layer come to, what a value is by its header, and that what is good stays good where more
 -- levels are left. Assumes nothing.
-use Rattle.rules.proofs.Prelude.{◌≡◌, refl, sym, ap, ◌∙◌, List, ℕ, zero, suc, ◌+◌, ◌≤◌, ◌<◌, arith, dec_lt, length, get_or, Found, pass, stop, and_last}
-use Rattle.part.specs.Part.{part}
+use Rattle.rules.proofs.Prelude.{◌≡◌, refl, sym, ◌∙◌, List, ℕ, zero, suc, ◌+◌, ◌≤◌, ◌<◌, arith, dec_lt, Found, pass, stop, and_last}
 use Rattle.layout.specs.declared.Widths.{Widths}
 use Rattle.layout.specs.Layout.{count, child_start}
 use Rattle.encoding.specs.declared.Header.{Header}
 use Rattle.encoding.specs.declared.Header.TheVariants as header
-use Rattle.encoding.specs.Encoding.{header_of}
 use Rattle.layer.specs.Object as object
 use Rattle.list.specs.List as list
 use Rattle.leaf.specs.Leaf.{leaf}
-use Rattle.nodes.specs.Tree.{Seen, ◌and_then◌, here, from, in_order, child, children, layered, field_end, object_by, element_end, list_by, value_by, too_deep, tree}
+use Rattle.nodes.specs.Tree.{Seen, ◌and_then◌, here, from, in_order, child, children, layered, field_end, object_by, element_end, list_by, value_by, tree}
 use Rattle.nodes.specs.Tree.Seen.{fine, wrong}
 use Rattle.nodes.specs.Meaning.{head_of, IsLeaf, child_of}
 

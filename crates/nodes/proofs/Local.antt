@@ -1,6 +1,6 @@
 -- A value's check looks at its own bytes alone: where it has an own length, bytes added after it change nothing, refusals included. And a good
 -- value has an own length. So a mark of a start answers for every end that the value's own length fits. Assumes nothing.
-use Rattle.rules.proofs.Prelude.{◌≡◌, refl, sym, ap, ◌∙◌, true, List, ◌++◌, ℕ, zero, suc, ◌+◌, ◌-◌, ◌≤◌, ◌<◌, arith, length, get_or, Passed, pass}
+use Rattle.rules.proofs.Prelude.{◌≡◌, refl, sym, ap, ◌∙◌, List, ◌++◌, ℕ, zero, suc, ◌+◌, ◌-◌, ◌≤◌, ◌<◌, arith, length, Passed, pass}
 use Rattle.rules.proofs.Prelude.{length-append, List·getD-append, drop, take, take-append-drop}
 use Rattle.std.specs.Prelude.{Ok}
 use native.Mathlib.Decide.{dec_le}
@@ -21,12 +21,11 @@ use Rattle.layer.specs.Object as object
 use Rattle.object.proofs.Local.{checks_local}
 use Rattle.list.specs.List as list
 use Rattle.list.proofs.Appended as list-appended
-use Rattle.list.proofs.Laws as list-laws
 use Rattle.leaf.specs.Leaf.{leaf}
 use Rattle.leaf.proofs.Local as leaf-local
-use Rattle.nodes.specs.Tree.{Seen, here, field_end, element_end, layered, tree}
+use Rattle.nodes.specs.Tree.{here, field_end, element_end, tree}
 use Rattle.nodes.specs.Tree.Seen.{fine}
-use Rattle.nodes.specs.Meaning.{head_of, IsLeaf, child_of}
+use Rattle.nodes.specs.Meaning.{head_of, child_of}
 use Rattle.nodes.proofs.Laws.{wrong_fine, here_fine, layered_alike, fine_layer, tree_leaf, object_deep, list_deep, tree_object, tree_list, by_head}
 use Rattle.nodes.proofs.Inside.{header_passes, laid, object_measured, field_rises, object_inside, list_header, list_measured}
 use Rattle.nodes.proofs.Inside.{element_rises, element_inside, list_inside}

@@ -1,8 +1,7 @@
 -- An object or a list whose own checks passed is opened: its numbers are the layout's, its children lie within it, and they are what is left to
 -- check. Assumes nothing.
-use Rattle.rules.proofs.Prelude.{◌≡◌, refl, sym, ◌∙◌, true, false, List, ℕ, suc, ◌+◌, ◌≤◌, ◌<◌, arith, length, passed, Passed, pass, stop, false_true, add-one}
+use Rattle.rules.proofs.Prelude.{◌≡◌, sym, ◌∙◌, true, false, List, ℕ, ◌+◌, ◌≤◌, arith, length, pass, stop, false_true, add-one}
 use Rattle.part.specs.Part.{part}
-use Rattle.part.proofs.Laws.{part_length}
 use Rattle.layout.specs.declared.Widths.{Widths}
 use Rattle.layout.specs.declared.Numbers.{Numbers}
 use Rattle.layout.specs.Layout as layout
@@ -14,13 +13,12 @@ use Rattle.layer.specs.Steps.{LayerOf}
 use Rattle.layer.proofs.Alike as alike
 use Rattle.list.specs.List as list
 use Rattle.list.specs.Steps as list_steps
-use Rattle.nodes.specs.declared.Container.{Container}
 use Rattle.nodes.specs.Tree.{from, field_end, element_end, tree}
 use Rattle.nodes.specs.Tree.Seen.{wrong}
 use Rattle.nodes.specs.Meaning.{head_of}
-use Rattle.nodes.specs.Steps.{Stands, Opened}
+use Rattle.nodes.specs.Steps.{Opened}
 use Rattle.nodes.proofs.Laws.{at_start, own_stops, own_passes, tree_object, tree_list}
-use Rattle.nodes.proofs.Inside.{widths_are, count_is, start_is, end_of, laid, field_rises, object_inside, element_rises, element_inside}
+use Rattle.nodes.proofs.Inside.{widths_are, count_is, start_is, end_of, laid, field_rises, element_rises, element_inside}
 
 module _ (w : List ℕ) (a e : ℕ) (rises : a ≤ e) (inside : e ≤ length w) (x : Widths) (few : Few x) where
   -- AN OBJECT

@@ -1,23 +1,21 @@
 -- What the steps of the check go by: a leaf, and the children of a container: the first of them are good, and the next
 -- one decides. Assumes nothing.
-use Rattle.rules.proofs.Prelude.{◌≡◌, sym, ap, ◌∙◌, true, false, List, ℕ, suc, ◌+◌, ◌-◌, ◌≤◌, ◌<◌, arith, get_or, pass, stop, add-one, and_last}
+use Rattle.rules.proofs.Prelude.{◌≡◌, sym, ap, ◌∙◌, List, ℕ, ◌+◌, ◌≤◌, ◌<◌, arith, get_or, pass, stop, add-one, and_last}
 use Rattle.part.specs.Part.{part}
-use Rattle.part.proofs.Laws.{part_part, part_length}
-use Rattle.layout.specs.Layout.{count, offset, child_start, end}
+use Rattle.part.proofs.Laws.{part_part}
+use Rattle.layout.specs.Layout.{count, child_start}
 use Rattle.encoding.specs.declared.Header.{Header}
 use Rattle.encoding.specs.Encoding.{header_of}
 use Rattle.part.specs.declared.Span.{Span}
 use Rattle.texts.specs.Known.{KnownOf}
-use Rattle.list.specs.declared.Span as list
-use Rattle.list.specs.Steps.{ElementOf}
 use Rattle.leaf.specs.Leaf.{leaf}
 use Rattle.std.specs.Prelude.{Ok, Err}
 use Rattle.nodes.specs.declared.Container.{Container}
 use Rattle.nodes.specs.declared.Fault.{Fault}
-use Rattle.nodes.specs.Tree.{Seen, from, tree}
+use Rattle.nodes.specs.Tree.{from, tree}
 use Rattle.nodes.specs.Tree.Seen.{fine, wrong}
 use Rattle.nodes.specs.Meaning.{head_of, IsLeaf, child_of}
-use Rattle.nodes.specs.Steps.{Marked, LeafOf, BelowOf, end_of, Stands, Opened, ChildOf}
+use Rattle.nodes.specs.Steps.{Marked, LeafOf, BelowOf, end_of, Opened, ChildOf}
 use Rattle.nodes.specs.Answers.{refusal_number, refusal_place}
 use Rattle.nodes.proofs.Laws.{from_wrong, at_start, wrong_from, here_pass, here_stop, tree_leaf, children_fine, child_wrong, more_levels}
 

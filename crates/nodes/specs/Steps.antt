@@ -1,5 +1,5 @@
 -- What the steps of the tree's check answer each other, in the words of Tree.antt. Assumes nothing.
-use Rattle.std.specs.Prelude.{◌≡◌, true, cond, List, ℕ, suc, ◌+◌, ◌-◌, ◌≤◌, ◌<◌, length, get_or, Option, Some, None, Result, Ok, Err}
+use Rattle.std.specs.Prelude.{◌≡◌, true, cond, List, ℕ, suc, ◌+◌, ◌≤◌, ◌<◌, length, get_or, Option, Some, None, Result, Ok, Err}
 use Rattle.part.specs.Part.{part}
 use Rattle.rules.specs.Rules.Found.{pass}
 use Rattle.dictionary.specs.declared.Header.{Header}

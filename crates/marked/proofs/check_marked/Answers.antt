@@ -12,36 +12,37 @@ pub returns-then-value-gt-LIMIT : goal.returns-then-value-gt-LIMIT
 unfolding limit
 returns-then-value-gt-LIMIT c =
     let x = c.args in
-    refused_by x.depth x.dict.now x.value.now (too_long x.depth x.dict.now x.value.now c.in-Good.ensures.1 (omega arith))
+    refused_by x.depth x.dict.now x.value.now (too_long x.depth x.dict.now x.value.now c.in_ok-header.ensures.1 (omega arith))
 
 pub check_value-requires : goal.check_value-requires
 unfolding levels limit
 check_value-requires c =
     let x = c.args in (
-      record { over = c.in-Good.ensures; limited = omega arith; rises = omega arith; inside = omega arith },
+      record { over = c.in_ok-header.ensures; limited = omega arith; rises = omega arith; inside = omega arith },
       omega arith,
       remembers_none x.dict.now x.value.now c.requires,
     )
 
-pub returns-in_err-check_value-in-Good : goal.returns-in_err-check_value-in-Good
+pub returns-in_err-check_value : goal.returns-in_err-check_value
 unfolding limit
-returns-in_err-check_value-in-Good c =
+returns-in_err-check_value c =
     let x = c.args in
     let fits : length x.value.now ≤ limit = omega arith in
-    let told = err_from_is_err_and c.from_residual.result c.from_residual.ensures.1 in
+    let told = err_from_is_err_and c.from_residual-in_err-check_value.result c.from_residual-in_err-check_value.ensures.1 in
     rw (told.1, told.2)
-    (found_bad x.depth x.dict.now x.value.now c.in-Good.ensures.1 fits _ c.levels_from-left.ensures c.in_err-check_value-in-Good.ensures)
+    (found_bad x.depth x.dict.now x.value.now c.in_ok-header.ensures.1 fits _ c.levels_from.ensures c.in_err-check_value.ensures)
 
-pub returns-in-Refused : goal.returns-in-Refused
-returns-in-Refused c =
+pub returns-in_err-header : goal.returns-in_err-header
+returns-in_err-header c =
     let x = c.args in
-    refused_by x.depth x.dict.now x.value.now (by_dictionary x.depth x.dict.now x.value.now c.in-Refused.ensures)
+    let told = err_from_is_err_and c.from_residual.result c.from_residual.ensures.1 in
+    rw (told.1, told.2) (refused_by x.depth x.dict.now x.value.now (by_dictionary x.depth x.dict.now x.value.now c.in_err-header.ensures))
 
-pub returns-in_ok-check_value-in-Good : goal.returns-in_ok-check_value-in-Good
+pub returns : goal.returns
 unfolding limit
-returns-in_ok-check_value-in-Good c =
+returns c =
     let x = c.args in
     let fits : length x.value.now ≤ limit = omega arith in
-    let good = c.in_ok-check_value-in-Good.ensures in
-    found_good x.depth x.dict.now x.value.now c.in-Good.ensures.1 fits _ c.levels_from-left.ensures _ good.0 good.1
+    let good = c.in_ok-check_value.ensures in
+    found_good x.depth x.dict.now x.value.now c.in_ok-header.ensures.1 fits _ c.levels_from.ensures _ good.0 good.1
     (c.bytes_of.ensures ∙ ap bytes_of c.own_length.ensures)
