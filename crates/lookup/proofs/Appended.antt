@@ -12,7 +12,7 @@ use Rattle.layer.proofs.Laws.{passes, entry_of}
 use Rattle.object.proofs.Means.{good}
 use Rattle.object.proofs.Appended.{lifted, Settled, unlifted, counted, count_same, start_same, id_same, offset_same, end_same, field_same, checks_kept}
 use Rattle.lookup.specs.ByName.{found, lookup, lookup_within, start_of, end_of}
-use Rattle.lookup.proofs.Found.{child_inside}
+use Rattle.lookup.proofs.Finds.{child_inside}
 
 module _ (d t o u q : List ℕ) where
   found_same : checks d o ≡ pass → found (o ++ u) (seek (field_name (d ++ t) (o ++ u)) q (count (o ++ u))) ≡ found o (seek (field_name d o) q (count o))

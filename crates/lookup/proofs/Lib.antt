@@ -1,5 +1,5 @@
 pub mod FromAbove
-pub mod Found
+pub mod Finds
 pub mod Pinned
 pub mod Appended
 pub mod Cut

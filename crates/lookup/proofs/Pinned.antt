@@ -2,30 +2,31 @@
 -- two cases have the same. Assumes nothing.
 use Rattle.rules.proofs.Prelude.{◌≡◌, refl, sym, ◌∙◌, List, [], ◌∷◌, ℕ, Answer, gives}
 use denote.Ref.{Bor}
+use Rattle.std.specs.Prelude.{Option, Some, None, Result, Ok, Err}
+use Rattle.layer.specs.declared.Refusal.{Refusal}
 use Rattle.metadata.proofs.Pinned.{refusal_by as dictionary_by, by_back}
 use Rattle.object.proofs.Pinned.{refusal_by, refusal_back}
-use Rattle.lookup.specs.declared.Lookup.{Lookup}
-use Rattle.lookup.specs.declared.Lookup.TheVariants as lookup
+use Rattle.lookup.specs.declared.Found.{Found}
 use Rattle.lookup.specs.Answers.{lookup_numbers, PartOf}
 use Rattle.lookup.specs.Promises.{GetPromise, ChildPromise}
 
-lookup_back : Answer → Lookup
-lookup_back (gives c (k ∷ i ∷ a ∷ e ∷ x) p) = lookup.Found k i a e
-lookup_back (gives c (k ∷ i ∷ a ∷ []) p) = lookup.Absent
-lookup_back (gives c (k ∷ i ∷ []) p) = lookup.Absent
-lookup_back (gives c (k ∷ []) p) = lookup.Absent
-lookup_back (gives c [] p) = refusal_by lookup.Refused lookup.Absent c p
+lookup_back : Answer → Result (Option Found) Refusal
+lookup_back (gives c (k ∷ i ∷ a ∷ e ∷ x) p) = Ok (Some (record { field = k; id = i; start = a; end = e }))
+lookup_back (gives c (k ∷ i ∷ a ∷ []) p) = Ok None
+lookup_back (gives c (k ∷ i ∷ []) p) = Ok None
+lookup_back (gives c (k ∷ []) p) = Ok None
+lookup_back (gives c [] p) = refusal_by Err (Ok None) c p
 
-lookup_back_law : (v : Lookup) → lookup_back (lookup_numbers v) ≡ v
+lookup_back_law : (v : Result (Option Found) Refusal) → lookup_back (lookup_numbers v) ≡ v
 unfolding lookup_back refusal_by dictionary_by
-lookup_back_law (lookup.Refused r) = refusal_back lookup.Refused lookup.Absent r
-lookup_back_law lookup.Absent = refl
-lookup_back_law (lookup.Found k i a e) = refl
+lookup_back_law (Err r) = refusal_back Err (Ok None) r
+lookup_back_law (Ok None) = refl
+lookup_back_law (Ok (Some f)) = refl
 
-pub lookup_injective : (v u : Lookup) → lookup_numbers v ≡ lookup_numbers u → v ≡ u
+pub lookup_injective : (v u : Result (Option Found) Refusal) → lookup_numbers v ≡ lookup_numbers u → v ≡ u
 lookup_injective = by_back lookup_numbers lookup_back lookup_back_law
 
-pub get_pinned : (d o q : List ℕ) (r r' : Lookup) → GetPromise d o q r → GetPromise d o q r' → r ≡ r'
+pub get_pinned : (d o q : List ℕ) (r r' : Result (Option Found) Refusal) → GetPromise d o q r → GetPromise d o q r' → r ≡ r'
 get_pinned d o q r r' a b = lookup_injective r r' (a ∙ sym b)
 
 -- the part's bytes, and the place where it starts

@@ -2,9 +2,11 @@
 -- the call's promise is meant. Assumes nothing.
 use Rattle.rules.proofs.Prelude.{◌≡◌, sym, ap, ◌∙◌, true, false, ◌↔◌, List, [], ℕ, arith, length, ◌otherwise◌, swap, false_true}
 use denote.Ref.{Bor}
+use Rattle.std.specs.Prelude.{Option, Some, None, Result, Ok, Err}
+use Rattle.part.specs.declared.Span.{Span}
+use Rattle.dictionary.specs.declared.Refusal.{Refusal as DictionaryRefusal}
 use Rattle.part.specs.Part.{part}
 use Rattle.part.proofs.Laws.{part_length}
-use Rattle.metadata.specs.declared.Entry.{Entry}
 use Rattle.metadata.specs.Answers.{entry_numbers}
 use Rattle.metadata.specs.Promises.{GetPromise as NamePromise}
 use Rattle.metadata.proofs.Pinned.{refusal_by as dictionary_by}
@@ -13,13 +15,12 @@ use Rattle.layer.specs.Answers.{refusal_number, refusal_place}
 use Rattle.layer.specs.Meaning.{Refusal as Due}
 use Rattle.object.proofs.Refuses.{is_due}
 use Rattle.object.proofs.Pinned.{refusal_by, refusal_back}
-use Rattle.lookup.specs.declared.Lookup.TheVariants as lookup
 use Rattle.lookup.specs.ByName.{lookup as lookup-of, lookup_within, start_of, end_of}
 use Rattle.lookup.specs.Meaning.{Found, Absent, NotFound, Spells}
 use Rattle.lookup.specs.Meaning.NotFound.{absent, refused}
 use Rattle.lookup.specs.Answers.{PartOf}
 use Rattle.lookup.specs.Promises.{GetPromise, ChildPromise}
-use Rattle.lookup.proofs.Found.{by_answer, found, absent_is, refused_is, found_inside, asked_again}
+use Rattle.lookup.proofs.Finds.{by_answer, found, absent_is, refused_is, found_inside, asked_again}
 
 -- no case of a refusal has the number of "absent"
 not_absent : (r : Refusal) → refusal_number r ≡ 1 → ⊥
@@ -28,17 +29,17 @@ not_absent r e = false_true (rw e at (refusal_back (λ _. true) false r))
 
 -- `get`
 module _ (d o q : List ℕ) where
-  pub get_found : (k i a e : ℕ) → GetPromise d o q (lookup.Found k i a e) ↔ Found d o q k i a e
+  pub get_found : (k i a e : ℕ) → GetPromise d o q (Ok (Some (record { field = k; id = i; start = a; end = e }))) ↔ Found d o q k i a e
   get_found k i a e = swap (found d o q k i a e)
 
   -- and so `metadata::get` at the id that was found gives the query
-  pub get_again : (k i a e : ℕ) → GetPromise d o q (lookup.Found k i a e) → (x : Entry) → NamePromise d i x → Spells d q (entry_numbers x)
+  pub get_again : (k i a e : ℕ) → GetPromise d o q (Ok (Some (record { field = k; id = i; start = a; end = e }))) → (x : Result (Option Span) DictionaryRefusal) → NamePromise d i x → Spells d q (entry_numbers x)
   get_again k i a e promised x named = rw named (asked_again d o q k i a e ((get_found k i a e).0 promised))
 
-  pub get_absent : GetPromise d o q lookup.Absent ↔ Absent d o q
+  pub get_absent : GetPromise d o q (Ok None) ↔ Absent d o q
   get_absent = swap (absent_is d o q)
 
-  pub get_refused : (r : Refusal) → GetPromise d o q (lookup.Refused r) ↔ Due d o (refusal_number r) (refusal_place r)
+  pub get_refused : (r : Refusal) → GetPromise d o q (Err r) ↔ Due d o (refusal_number r) (refusal_place r)
   get_refused r = swap (refused_is d o q (refusal_number r) (refusal_place r) (not_absent r))
 
 -- the bytes of a found child

@@ -1,4 +1,4 @@
--- What the lookup's answers say, in the words of document 01 and, of the id, request c) of document 02. proofs/Found.antt shows that the
+-- What the lookup's answers say, in the words of document 01 and, of the id, request c) of document 02. proofs/Finds.antt shows that the
 -- lookup of ByName.antt says the same. Assumes nothing.
 use Rattle.std.specs.Prelude.{◌≡◌, List, [], ◌∷◌, ℕ, ◌+◌, ◌<◌}
 use Rattle.rules.specs.Rules.{Answer, accept}

@@ -1,20 +1,18 @@
 -- What the steps of the lookup answer each other, in the words of ByName.antt. Assumes nothing.
-use Rattle.std.specs.Prelude.{◌≡◌, List, ℕ, ◌≤◌, ◌<◌, length}
+use Rattle.std.specs.Prelude.{◌≡◌, List, ℕ, ◌≤◌, ◌<◌, length, Option, Some, None}
+use Rattle.part.specs.declared.Span.{Span}
 use Rattle.names.specs.Order.{Before}
 use Rattle.layer.specs.Object.{count, field_name}
 use Rattle.names.specs.Search.{Sought}
 use Rattle.names.specs.Search.Sought.{nowhere, here}
-use Rattle.lookup.specs.declared.Search.{Search}
-use Rattle.lookup.specs.declared.Search.TheVariants as search
-use Rattle.lookup.specs.declared.Place.{Place}
 use Rattle.lookup.specs.ByName.{lookup, start_of, end_of}
 
-abbrev pub sought_of : Search → Sought
-sought_of search.Nowhere = nowhere
-sought_of (search.At k) = here k
+abbrev pub sought_of : Option ℕ → Sought
+sought_of None = nowhere
+sought_of (Some k) = here k
 
 -- where the child lies in the object
-pub record PlaceOf (d o q : List ℕ) (p : Place) : Type 0 where
+pub record PlaceOf (d o q : List ℕ) (p : Span) : Type 0 where
   pub start_is : p.start ≡ start_of (lookup d o q)
   pub end_is : p.end ≡ end_of (lookup d o q)
   pub rises : p.start ≤ p.end
