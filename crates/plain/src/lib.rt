@@ -23,6 +23,7 @@ pub fn largest(s: &[u8], from: usize, count: usize) -> u8
 pub fn strides(s: &[u8]) -> usize
     ensures { Reached s.now result }
 {
+    // No `for`: where the strides ended is the answer.
     let mut at = 0;
     while STRIDE <= s.len() - at {
         if 0x80 <= largest(s, at, STRIDE) {

@@ -23,9 +23,7 @@ fn last_start(s: &[u8], end: usize) -> usize
     requires { Rights s.now 0 end × (end ≤ length s.now) }
     ensures { Reached s.now result }
 {
-    let mut at = end;
-    while 0 < at {
-        at -= 1;
+    for at in (0..end).rev() {
         if s[at] < 0x80 {
             return at;
         }
@@ -33,7 +31,7 @@ fn last_start(s: &[u8], end: usize) -> usize
             return at;
         }
     }
-    at
+    0
 }
 
 // Up to where each byte may stand where it does, block by block: to the end, or to the first block with one that may not. The last block
@@ -46,6 +44,7 @@ fn right_up_to(s: &[u8], count: usize) -> usize
     if !blocks::first_pass(s, before) {
         return 0;
     }
+    // No `for`: where the blocks ended is asked after the loop.
     let mut at = 0;
     while 3 + count <= s.len() - at {
         let most = plain::largest(s, at + 3, count);
@@ -76,6 +75,7 @@ fn begin(s: &[u8]) -> usize
 fn valid_len(s: &[u8]) -> usize
     ensures { result ≡ text_up_to s.now }
 {
+    // No `for`: each step is as long as its character, and where they ended is the answer.
     let mut at = begin(s);
     while at < s.len() {
         let n = chars::char_at(s, at);
