@@ -3,7 +3,6 @@
 #![tactic(auto)]
 
 ghost use Rattle.std.specs.Prelude.{◌≡◌, ◌≤◌, length, IfOk, IfSome};
-ghost use Rattle.dictionary.specs.declared.Head.TheVariants as Head;
 ghost use Rattle.metadata.specs.Steps.{CheckedOf};
 ghost use Rattle.write_object.specs.Writing.{room_after as object_after};
 ghost use Rattle.lichenhusk.specs.Strip.{write_object_words};
@@ -43,7 +42,7 @@ fn of_lines(
     to: &mut impl Write,
     out: &mut [u8],
 ) -> io::Result<Option<usize>>
-    requires checked_of { CheckedOf dict.now (Head.Good h) }
+    requires checked_of { CheckedOf dict.now (Ok h) }
     requires text_len_bound { length text.now ≤ ROOM }
     ensures assembled { IfOk result (λ made. IfSome made (λ len. Assembled dict.now text.now out.old len out.new)) }
     ensures upper_bound { IfOk result (λ made. IfSome made (λ len. len ≤ length out.new)) }
@@ -73,15 +72,13 @@ fn of_input(
     to: &mut impl Write,
     out: &mut [u8],
 ) -> io::Result<Option<usize>>
-    requires { CheckedOf dict.now (Head.Good h) }
+    requires { CheckedOf dict.now (Ok h) }
     ensures { IfOk result (λ made. IfSome made (λ len. len ≤ length out.new)) }
 {
     let mut lent = [0u8; LENT];
-    let text = files::input(input, to, &mut lent)?;
-    if !text.good {
+    let Some(n) = files::input(input, to, &mut lent)? else {
         return Ok(None);
-    }
-    let n = text.len;
+    };
     of_lines(dict, h, &lent[0..n], to, out)
 }
 
@@ -94,13 +91,10 @@ pub fn from_input(
 ) -> io::Result<Option<usize>>
     ensures { IfOk result (λ made. IfSome made (λ len. len ≤ length out.new)) }
 {
-    let head = metadata::checked(dict);
-    match head {
-        dictionary::Head::Refused(_) => {
-            let a = ask::dictionary(dict);
-            unwritten::object(to, a.code, a.place, out.len())?;
-            Ok(None)
-        }
-        dictionary::Head::Good(h) => of_input(dict, h, input, to, out),
-    }
+    let Ok(h) = metadata::checked(dict) else {
+        let a = ask::dictionary(dict);
+        unwritten::object(to, a.code, a.place, out.len())?;
+        return Ok(None);
+    };
+    of_input(dict, h, input, to, out)
 }

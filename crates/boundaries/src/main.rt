@@ -11,6 +11,7 @@ ghost use Rattle.std.specs.Prelude.{◌≤◌, ◌<◌, length, IfSome};
 use print::{tell, write_hex};
 use std::io;
 use std::io::Read;
+use utf8::Flaw;
 
 // How many cases there are of each kind: of 1 and 2 bytes, and of 3 and 4 boundary bytes.
 const ONES: usize = 256;
@@ -160,11 +161,10 @@ fn mark(marks: &[u8], place: usize) -> u8 {
 // The mark of what utf8::check answers to a case.
 fn answer(number: usize) -> u8 {
     let Case { bytes, len } = case_of(number);
-    let verdict = utf8::check(&bytes[..len]);
-    match verdict {
-        utf8::Verdict::Whole => mark(b"01234", len),
-        utf8::Verdict::Cut(p) => mark(b"abcd", p),
-        utf8::Verdict::Broken(p) => mark(b"01234", p),
+    match utf8::check(&bytes[..len]) {
+        Ok(()) => mark(b"01234", len),
+        Err(Flaw::Cut(p)) => mark(b"abcd", p),
+        Err(Flaw::Broken(p)) => mark(b"01234", p),
     }
 }
 

@@ -3,14 +3,13 @@
 
 mod batch;
 
-use arguments::argument;
+use arguments::{Names, argument};
 use files::LENT;
 use print::{room, tell, tell_to, write_hex};
 use std::env::Env;
 use std::io;
 use std::io::Write;
 use std::rt::Files;
-use text::Numeral;
 
 // The bytes of the longest path, with the one that ends it.
 const PATH: usize = 4096;
@@ -93,29 +92,24 @@ fn check(rt: &(impl Files + Input + Print), path: &[u8]) -> io::Result<()> {
 
 fn check_file(rt: &(impl Files + Print), path: &[u8]) -> io::Result<()> {
     let mut room = [0u8; LENT];
-    let dict = files::load(rt, path, &mut room)?;
-    if !dict.good {
+    let Some(n) = files::load(rt, path, &mut room)? else {
         return Ok(());
-    }
-    let n = dict.len;
+    };
     sentences::check_dictionary(rt, &room[0..n])
 }
 
 fn name_of(rt: &(impl Files + Print), path: &[u8], entry: usize) -> io::Result<()> {
     let mut room = [0u8; LENT];
-    let dict = files::load(rt, path, &mut room)?;
-    if !dict.good {
+    let Some(n) = files::load(rt, path, &mut room)? else {
         return Ok(());
-    }
-    let n = dict.len;
+    };
     sentences::name(rt, &room[0..n], entry)
 }
 
 fn name(rt: &(impl Files + Print), path: &[u8], entry: &[u8]) -> io::Result<()> {
-    let number = text::number(entry);
-    match number {
-        Numeral::Of(i) => name_of(rt, path, i),
-        Numeral::No => tell(rt, b"N is not a number below 4294967296\n"),
+    match text::number(entry) {
+        Some(i) => name_of(rt, path, i),
+        None => tell(rt, b"N is not a number below 4294967296\n"),
     }
 }
 
@@ -144,17 +138,13 @@ fn with_both<F: FnOnce(&[u8], &[u8]) -> io::Result<()>>(
     requires { F.IsAlwaysCallable ask }
 {
     let mut dict_room = [0u8; LENT];
-    let dict = files::load(rt, path, &mut dict_room)?;
-    if !dict.good {
+    let Some(n) = files::load(rt, path, &mut dict_room)? else {
         return Ok(());
-    }
+    };
     let mut object_room = [0u8; LENT];
-    let object = files::load(rt, object_path, &mut object_room)?;
-    if !object.good {
+    let Some(m) = files::load(rt, object_path, &mut object_room)? else {
         return Ok(());
-    }
-    let n = dict.len;
-    let m = object.len;
+    };
     ask(&dict_room[0..n], &object_room[0..m])
 }
 
@@ -207,11 +197,9 @@ fn write_object(
     path: &[u8],
 ) -> io::Result<()> {
     let mut lent = [0u8; LENT];
-    let dict = files::load_to(rt, errors, path, &mut lent)?;
-    if !dict.good {
+    let Some(n) = files::load_to(rt, errors, path, &mut lent)? else {
         return Ok(());
-    }
-    let n = dict.len;
+    };
     let mut room = room::bytes();
     match assembled::from_input(&lent[0..n], &mut rt.reader(), errors, &mut room)? {
         Some(m) => send(rt, errors, &room[0..m], b"cannot write the object\n"),
@@ -256,23 +244,18 @@ fn find_arguments(
 ) -> io::Result<()> {
     let mut run = room::bytes();
     let mut ends = [0u32; 65];
-    let names = arguments::gather(rt, count, &mut run, &mut ends)?;
-    if !names.good {
-        return Ok(());
+    match arguments::gather(rt, count, &mut run, &mut ends)? {
+        Some(Names { len, count }) => find(rt, path, object_path, &run[0..len], &ends[0..count]),
+        None => Ok(()),
     }
-    let n = names.len;
-    let k = names.count;
-    find(rt, path, object_path, &run[0..n], &ends[0..k])
 }
 
 fn get_argument(rt: &(impl Env + Files + Print), path: &[u8], value_path: &[u8]) -> io::Result<()> {
     let mut room = room::bytes();
-    let steps = argument(rt, 4, &mut room)?;
-    if !steps.good {
-        return Ok(());
+    match argument(rt, 4, &mut room)? {
+        Some(n) => get(rt, path, value_path, &room[0..n]),
+        None => Ok(()),
     }
-    let n = steps.len;
-    get(rt, path, value_path, &room[0..n])
 }
 
 // The command of `count` words: the first three beside its name, and the others where they are.
@@ -303,12 +286,9 @@ fn run_words(
     let verb = argument(rt, 1, &mut verb_room)?;
     let one = argument(rt, 2, &mut one_room)?;
     let two = argument(rt, 3, &mut two_room)?;
-    if !(verb.good && one.good && two.good) {
+    let (Some(v), Some(a), Some(b)) = (verb, one, two) else {
         return Ok(());
-    }
-    let v = verb.len;
-    let a = one.len;
-    let b = two.len;
+    };
     of_words(
         rt,
         errors,

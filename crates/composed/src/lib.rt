@@ -40,11 +40,9 @@ pub fn from_input(
     ensures { IfOk result (λ made. IfSome made (λ len. len ≤ length out.new)) }
 {
     let mut room = [0u8; LENT];
-    let text = files::input(input, to, &mut room)?;
-    if !text.good {
+    let Some(n) = files::input(input, to, &mut room)? else {
         return Ok(None);
-    }
-    let n = text.len;
+    };
     let a = compose(&room[0..n], out);
     if a.code != 0 {
         unwritten::dictionary(to, a.code, a.place, out.len())?;

@@ -11,7 +11,10 @@ use std::io;
 
 fn accepted(rt: &impl Print, a: Answer) -> io::Result<()> {
     counted(rt, b"accepted: ", a.number, b" field", b" fields")?;
-    println!(rt; ", the value region from byte {} to byte {}", a.start, a.end)
+    println!(rt;
+        ", the value region from byte {} to byte {}",
+        a.start, a.end
+    )
 }
 
 pub fn check_object(rt: &impl Print, dict: &[u8], object: &[u8]) -> io::Result<()> {
@@ -55,17 +58,14 @@ fn field(
 
 // The fields of a listing, three words a field.
 fn fields(rt: &impl Print, dict: &[u8], object: &[u8], words: &[u32]) -> io::Result<()> {
-    let head = metadata::checked(dict);
-    match head {
-        dictionary::Head::Refused(_) => Ok(()),
-        dictionary::Head::Good(h) => {
-            let (rows, _) = words.as_chunks::<3>();
-            for [id, start, span] in rows {
-                field(rt, dict, h, object, wide(*id), wide(*start), wide(*span))?;
-            }
-            Ok(())
-        }
+    let Ok(h) = metadata::checked(dict) else {
+        return Ok(());
+    };
+    let (rows, _) = words.as_chunks::<3>();
+    for [id, start, span] in rows {
+        field(rt, dict, h, object, wide(*id), wide(*start), wide(*span))?;
     }
+    Ok(())
 }
 
 // Three words a field. An object of more than 256 fields has three bytes or more for each, so that as many words as a program has bytes

@@ -70,5 +70,8 @@ fn main(rt: HostRuntime) -> io::Result<()> {
     let mut text = room();
     let n = tally::load(&rt, b"answers", &mut text)?;
     let t = run(&rt, &text[0..n])?;
-    println!(&rt; "{} answers of the Rust's, {} differ from ours", t.cases, t.wrong)
+    println!(&rt;
+        "{} answers of the Rust's, {} differ from ours",
+        t.cases, t.wrong
+    )
 }

@@ -4,22 +4,20 @@ ghost use Rattle.layout.specs.Steps.{Few};
 use crate::numbers::write_signed;
 use crate::start_of;
 use encoding::Header;
-use layout::{Head, Widths};
+use layout::Widths;
 use print::{counted, quoted, tell, write_hex};
 use slices::part_of;
 use std::io;
-use utf8::Verdict;
+use utf8::Flaw;
 
 // How many bytes of a string are shown.
 const SHOWN: usize = 64;
 
 // As many whole characters as the bytes start with.
 fn whole_characters(s: &[u8]) -> &[u8] {
-    let verdict = utf8::check(s);
-    match verdict {
-        Verdict::Whole => s,
-        Verdict::Cut(n) => part_of(s, 0, n),
-        Verdict::Broken(n) => part_of(s, 0, n),
+    match utf8::check(s) {
+        Ok(()) => s,
+        Err(Flaw::Cut(n) | Flaw::Broken(n)) => part_of(s, 0, n),
     }
 }
 
@@ -39,11 +37,9 @@ fn no_text(rt: &impl Print, s: &[u8]) -> io::Result<()> {
 
 // Reading a value does not check a string: what is no text does not reach a terminal as it is.
 fn string(rt: &impl Print, s: &[u8]) -> io::Result<()> {
-    let verdict = utf8::check(s);
-    match verdict {
-        Verdict::Whole => text(rt, s),
-        Verdict::Cut(_) => no_text(rt, s),
-        Verdict::Broken(_) => no_text(rt, s),
+    match utf8::check(s) {
+        Ok(()) => text(rt, s),
+        Err(_) => no_text(rt, s),
     }
 }
 
@@ -96,11 +92,7 @@ fn time(rt: &impl Print, t: usize, s: &[u8]) -> io::Result<()> {
 fn count_by(s: &[u8], w: Widths) -> usize
     requires { Few w }
 {
-    let head = layout::read(s, w);
-    match head {
-        Head::Good(l) => l.count,
-        _ => 0,
-    }
+    layout::read(s, w).map_or(0, |l| l.count)
 }
 
 fn count_of(s: &[u8]) -> usize {

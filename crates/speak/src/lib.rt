@@ -62,6 +62,9 @@ pub fn standing(rt: &impl Print, whole: &[u8], start: usize, end: usize) -> io::
 
 // A field that was found.
 pub fn field(rt: &impl Print, whole: &[u8], a: Answer) -> io::Result<()> {
-    print!(rt; "found: field {}, entry {} of the dictionary, its value", a.number, a.id)?;
+    print!(rt;
+        "found: field {}, entry {} of the dictionary, its value",
+        a.number, a.id
+    )?;
     standing(rt, whole, a.start, a.end)
 }

@@ -25,7 +25,11 @@ fn size_of(t: usize) -> usize {
 
 // The bits are those of 64, whatever the kind.
 fn integer(rt: &impl Print, t: usize, bits: usize) -> io::Result<()> {
-    print!(rt; "integer {}, {} bits", (bits as u64).cast_signed(), size_of(t))
+    print!(rt;
+        "integer {}, {} bits",
+        (bits as u64).cast_signed(),
+        size_of(t)
+    )
 }
 
 fn double(rt: &impl Print, bits: usize) -> io::Result<()> {

@@ -140,11 +140,9 @@ fn write_dictionary(rt: &(impl Files + Print), path: &[u8]) -> io::Result<()> {
 // And `write-object` over the dictionary of a file, of another: its fields are listed.
 fn write_object(rt: &(impl Files + Print), path: &[u8], lines: &[u8]) -> io::Result<()> {
     let mut lent = [0u8; LENT];
-    let dict = files::load(rt, path, &mut lent)?;
-    if !dict.good {
+    let Some(m) = files::load(rt, path, &mut lent)? else {
         return Ok(());
-    }
-    let m = dict.len;
+    };
     let mut room = room::bytes();
     let made = assembled::from_input(
         &lent[0..m],

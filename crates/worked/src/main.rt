@@ -115,7 +115,12 @@ fn main(rt: HostRuntime) -> io::Result<()> {
     let questions = |t, line: &[u8]| question(&rt, t, line);
     let t = table(&rt, tally::none(), b"cases", questions)?;
     let t = special::rooms(&rt, t)?;
-    let t = table(&rt, t, b"children", |t, line: &[u8]| children::case(&rt, t, line))?;
+    let t = table(
+        &rt,
+        t,
+        b"children",
+        |t, line: &[u8]| children::case(&rt, t, line),
+    )?;
     let t = special::run(&rt, t)?;
     let t = table(&rt, t, b"paths", |t, line: &[u8]| paths::case(&rt, t, line))?;
     let t = table(&rt, t, b"writes", |t, line: &[u8]| {
@@ -126,6 +131,11 @@ fn main(rt: HostRuntime) -> io::Result<()> {
         writes::case(&rt, t, What::Object, line)
     })?;
     let t = table(&rt, t, b"piece_cases", questions)?;
-    let t = table(&rt, t, b"states", |t, line: &[u8]| states::case(&rt, t, line))?;
+    let t = table(
+        &rt,
+        t,
+        b"states",
+        |t, line: &[u8]| states::case(&rt, t, line),
+    )?;
     report::close(&rt, t)
 }
