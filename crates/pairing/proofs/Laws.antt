@@ -5,17 +5,17 @@ use native.Mathlib.Nat.{le_refl}
 use Rattle.rules.proofs.Prelude.{◌≡◌, refl, sym, ap, ◌∙◌, Bool, true, false, cond, List, [], ◌∷◌, ℕ, suc, ◌+◌, ◌/◌, ◌≤◌, ◌<◌, add-one, dec_lt}
 use Rattle.rules.proofs.Prelude.{arith, ne_eqb, ltb, eqb, le-ltb, length, take, drop, length-drop, get_or, take_at}
 use Prim.Native.Nat.{◌%◌}
-use Rattle.text.specs.Text.{before, is_dash, no_digit, pairs, hex_of, Reading}
-use Rattle.text.specs.Text.Reading.{spells, faulty}
+use Rattle.std.specs.Prelude.{Result, Ok, Err}
+use Rattle.text.specs.Text.{before, is_dash, no_digit, pairs, hex_of}
 use Rattle.text.specs.Steps.{Read}
-use Rattle.text.specs.declared.Spelt.{Spelt}
+use Rattle.text.specs.declared.Fault.{Fault}
+use Rattle.text.specs.declared.Fault.TheVariants.{Odd, NoDigit, Long}
 use Rattle.dictionary.specs.declared.Header.{Header}
-use Rattle.dictionary.specs.declared.Head.TheVariants as head
 use Rattle.dictionary.specs.Dictionary.{count, name}
 use Rattle.metadata.specs.Steps.{CheckedOf}
 use Rattle.metadata.proofs.Means.{good}
 use Rattle.metadata.proofs.Fits.{accepted_small}
-use Rattle.pairing.specs.Meaning.{space, NoSpace, Halves, LastSpace, EntryOf}
+use Rattle.pairing.specs.Meaning.{space, NoSpace, Halves, EntryOf}
 
 -- NO SPACE FROM A PLACE ON
 
@@ -38,16 +38,8 @@ one_more {line} {i} b n =
     }
 
 -- the space itself, and none
-pub here : {line : List ℕ} {i : ℕ} → Blank line (i + 1) → get_or line i 0 ≡ 0x20 → LastSpace line i
-here b e =
-    record {
-      inside = omega (arith, b.inside);
-      found = λ _. record { inside = omega (arith, b.inside); is_space = e; is_last = b.after };
-      none = λ z. absurd (omega (arith, b.inside));
-    }
-
-pub without : {line : List ℕ} → Blank line 0 → LastSpace line (length line)
-without b = record { inside = omega arith; found = λ h. absurd (omega arith); none = λ _. b.after }
+pub here : {line : List ℕ} {i : ℕ} → Blank line (i + 1) → get_or line i 0 ≡ 0x20 → Halves line i
+here b e = record { inside = omega (arith, b.inside); is_space = e; is_last = b.after }
 
 -- NO ENTRY BEFORE A PLACE
 
@@ -67,32 +59,32 @@ module _ {d query : List ℕ} {i : ℕ} (p : Passed d query i) where
       by_place j q (yes r) = p.none j r
       by_place j q (no r) = λ e. let here : j ≡ i = omega arith in n (rw here at e)
 
-  -- it is; and no entry is
+  -- it is
   pub found : i < count d → name d i ≡ query → EntryOf d query i
-  found h e = record { inside = p.inside; is_name = λ _. e; is_first = p.none }
-
-  pub nowhere : i ≡ count d → EntryOf d query i
-  nowhere e = record { inside = p.inside; is_name = λ h. absurd (omega arith); is_first = p.none }
+  found h e = record { inside = h; is_name = e; is_first = p.none }
 
 -- A PAIR: what digits spell is spelt in any room that has some for it
 
-abbrev Spells : List ℕ → Bool → Bool → Bool → Bool → Reading
-Spells t dash odd long bad = cond dash (spells []) (cond odd (faulty 1) (cond long (faulty 3) (cond bad (faulty 2) (spells (pairs t)))))
+abbrev Spells : List ℕ → Bool → Bool → Bool → Bool → Result (List ℕ) Fault
+Spells t dash odd long bad = cond dash (Ok []) (cond odd (Err Odd) (cond long (Err Long) (cond bad (Err NoDigit) (Ok (pairs t)))))
 
-module _ (t out : List ℕ) {after : List ℕ} {r : Spelt} (ok : r.fault ≡ 0) where
-  by_test : (dash odd long bad : Bool) → Read (Spells t dash odd long bad) out r after → Spells t dash odd false bad ≡ spells (take r.len after)
-  by_test true _ _ _ read = let n : r.len ≡ 0 = read.len_is in rw n
-  by_test false true _ _ read = absurd (omega (arith, ok, read.fault_is))
-  by_test false false true _ read = absurd (omega (arith, ok, read.fault_is))
-  by_test false false false true read = absurd (omega (arith, ok, read.fault_is))
-  by_test false false false false read = ap spells (sym (rw read.room_is (take_at (pairs t) _ r.len (sym read.len_is))))
+module _ (t out : List ℕ) {after : List ℕ} (n : ℕ) where
+  by_test : (dash odd long bad : Bool) → Read (Spells t dash odd long bad) out (Ok n) after → Spells t dash odd false bad ≡ Ok (take n after)
+  by_test true _ _ _ read = let e = read.is in let z : n ≡ 0 = cc in rw z
+  by_test false true _ _ read = let e = read.is in let z : ◌≡◌ {A = ℕ} 0 1 = cc in absurd (omega arith)
+  by_test false false true _ read = let e = read.is in let z : ◌≡◌ {A = ℕ} 0 1 = cc in absurd (omega arith)
+  by_test false false false true read = let e = read.is in let z : ◌≡◌ {A = ℕ} 0 1 = cc in absurd (omega arith)
+  by_test false false false false read =
+      let e = read.is in
+      let z : length (pairs t) ≡ n = cc in
+      ap Ok (sym (rw read.room_is (take_at (pairs t) _ n z)))
 
-  pub spelt : Read (hex_of t (length out)) out r after → hex_of t (length t) ≡ spells (take r.len after)
+  pub spelt : Read (hex_of t (length out)) out (Ok n) after → hex_of t (length t) ≡ Ok (take n after)
   unfolding hex_of
   spelt read =
       rw (le-ltb (length t) (length t / 2) (omega arith))
       (by_test (is_dash t) (eqb (length t % 2) 1) (ltb (length out) (length t / 2)) (ltb (before no_digit t) (length t)) read)
 
 -- the entry's number fits a word
-pub small : {d : List ℕ} {h : Header} {i : ℕ} → CheckedOf d (head.Good h) → i ≤ count d → i < 4294967296
+pub small : {d : List ℕ} {h : Header} {i : ℕ} → CheckedOf d (Ok h) → i ≤ count d → i < 4294967296
 small {d} checked p = omega (arith, (accepted_small d (good d checked.1)).number)

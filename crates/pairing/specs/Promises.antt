@@ -1,4 +1,4 @@
--- What the call promises where it has no fault: the pairs of all lines of a text, in the first words and bytes. Assumes nothing.
+-- What the call promises where each line is a pair: the pairs of all lines of a text, in the first words and bytes. Assumes nothing.
 use Rattle.std.specs.Prelude.{List, ℕ, length, take}
 use Rattle.split.specs.Lines.{lines_of}
 use Rattle.pairing.specs.declared.Pairs.{Pairs}

@@ -1,90 +1,72 @@
 // Lines `NAME HEX` as pairs over a dictionary, for an object that is written of them. NAME is all before the last space, HEX the child's bytes.
 #![tactic(auto)]
 
-ghost use Rattle.std.specs.Prelude.{◌≡◌, ◌+◌, ◌*◌, ◌/◌, ◌≤◌, ◌<◌, [], ◌∷◌, length, take};
+ghost use Rattle.std.specs.Prelude.{◌≡◌, ◌+◌, ◌*◌, ◌/◌, ◌≤◌, ◌<◌, [], ◌∷◌, length, take, IfOk, Ok};
 ghost use Rattle.std.proofs.lemmas.List.Edits.{sets};
-ghost use Rattle.dictionary.specs.declared.Head.TheVariants as Head;
 ghost use Rattle.metadata.specs.Steps.{CheckedOf};
-ghost use Rattle.pairing.specs.Meaning.{LastSpace, EntryOf, PairOf};
+ghost use Rattle.pairing.specs.Meaning.{LastSpace, SoughtOf, PairOf};
 ghost use Rattle.pairing.specs.Promises.{GatherPromise};
 
 use dictionary::Header;
+use part::Span;
 use text::{find, hex};
 
-// Why a line is no pair. The numbers before these are the faults of hex, and 0 is none.
-const NO_SPACE: usize = 4;
+// Why a line is no pair.
+#[derive(Clone, Copy)]
+pub enum Fault {
+    Hex(text::Fault),
+    NoSpace,
+    NoEntry,
+}
 
-const NO_ENTRY: usize = 5;
+impl From<text::Fault> for Fault {
+    fn from(fault: text::Fault) -> Fault {
+        Fault::Hex(fault)
+    }
+}
 
-// Where the last space of a line stands, or its length.
-fn last_space(line: &[u8]) -> usize
+// Where the last space of a line stands.
+fn last_space(line: &[u8]) -> Option<usize>
     ensures { LastSpace line.now result }
 {
-    let mut i = line.len();
-    while 0 < i {
-        i -= 1;
+    for i in (0..line.len()).rev() {
         if line[i] == b' ' {
-            return i;
+            return Some(i);
         }
     }
-    line.len()
+    None
 }
 
-// The first entry that is the name, or how many there are where none is.
-fn entry_of(dict: &[u8], h: Header, name: &[u8]) -> usize
-    requires { CheckedOf dict.now (Head.Good h) }
-    ensures { EntryOf dict.now name.now result }
+// The first entry that is the name.
+fn entry_of(dict: &[u8], h: Header, name: &[u8]) -> Option<usize>
+    requires { CheckedOf dict.now (Ok h) }
+    ensures { SoughtOf dict.now name.now result }
 {
     for i in 0..h.count {
-        let span = metadata::span_of(dict, h, i);
-        let a = span.start;
-        let e = span.end;
-        if check::same(&dict[a..e], name) {
-            return i;
+        let Span { start, end } = metadata::span_of(dict, h, i);
+        if check::same(&dict[start..end], name) {
+            return Some(i);
         }
     }
-    h.count
+    None
 }
 
-// The entry of a line's name, and the first `len` bytes of a room, its child's; or the fault.
+// The entry of a line's name, and the first `len` bytes of a room, its child's.
 #[derive(Clone, Copy)]
 struct Pair {
-    fault: usize,
     id: usize,
     len: usize,
 }
 
-fn faulty(fault: usize) -> Pair
-    ensures { (result.fault ≡ fault) × (result.len ≤ 0) × (result.id ≤ 0) }
+fn pair_of(line: &[u8], dict: &[u8], h: Header, out: &mut [u8]) -> Result<Pair, Fault>
+    requires { CheckedOf dict.now (Ok h) }
+    ensures pair_of { IfOk result (λ pair. PairOf dict.now line.now pair.id (take pair.len out.new)) }
+    ensures len_in_bounds { IfOk result (λ pair. (pair.len ≤ length out.new) × (pair.id < 4294967296)) }
 {
-    Pair {
-        fault,
-        id: 0,
-        len: 0,
-    }
-}
-
-fn pair_of(line: &[u8], dict: &[u8], h: Header, out: &mut [u8]) -> Pair
-    requires { CheckedOf dict.now (Head.Good h) }
-    ensures pair_of { result.fault ≡ 0 → PairOf dict.now line.now result.id (take result.len out.new) }
-    ensures len_in_bounds { (result.len ≤ length out.new) × (result.id < 4294967296) }
-{
-    let n = line.len();
-    let space = last_space(line);
-    if space == n {
-        return faulty(NO_SPACE);
-    }
-    let id = entry_of(dict, h, &line[0..space]);
-    if id == h.count {
-        return faulty(NO_ENTRY);
-    }
-    let from = space + 1;
-    let read = hex(&line[from..n], out);
-    Pair {
-        fault: read.fault,
-        id,
-        len: read.len,
-    }
+    let space = last_space(line).ok_or(Fault::NoSpace)?;
+    let id = entry_of(dict, h, &line[..space]).ok_or(Fault::NoEntry)?;
+    let len = hex(&line[space + 1..], out)?;
+    Ok(Pair { id, len })
 }
 
 // The three words of a pair, at a place.
@@ -97,33 +79,32 @@ fn put_pair(words: &mut [u32], at: usize, id: usize, start: usize, end: usize)
     words[at + 2] = end as u32;
 }
 
-// The pairs that were gathered: the first `len` bytes, and the first `count` words. Where there is a fault, it is that of line `line`, counted
-// from 0, and there are none.
+// The pairs that were gathered: the first `len` bytes, and the first `count` words.
 #[derive(Clone, Copy)]
 pub struct Pairs {
-    pub fault: usize,
-    pub line: usize,
     pub len: usize,
     pub count: usize,
 }
 
-fn no_pairs(fault: usize, line: usize) -> Pairs
-    ensures { (result.fault ≡ fault) × (result.len ≤ 0) × (result.count ≤ 0) }
-{
-    Pairs {
-        fault,
-        line,
-        len: 0,
-        count: 0,
-    }
+// Line `line`, counted from 0, is no pair.
+#[derive(Clone, Copy)]
+pub struct BadLine {
+    pub line: usize,
+    pub fault: Fault,
 }
 
 // A pair a line, without its newline. A line that is one has a byte or more, so that there are no more than half as many as bytes.
-pub fn gather(text: &[u8], dict: &[u8], h: Header, bytes: &mut [u8], words: &mut [u32]) -> Pairs
-    requires checked_of { CheckedOf dict.now (Head.Good h) }
+pub fn gather(
+    text: &[u8],
+    dict: &[u8],
+    h: Header,
+    bytes: &mut [u8],
+    words: &mut [u32],
+) -> Result<Pairs, BadLine>
+    requires checked_of { CheckedOf dict.now (Ok h) }
     requires text_in_bounds { (3 * ((length text.now + 1) / 2) ≤ length words.old) × (length bytes.old < 4294967296) }
-    ensures gather_promise { result.fault ≡ 0 → GatherPromise text.now dict.now result bytes.new words.new }
-    ensures len_in_bounds { (result.len ≤ length bytes.new) × (result.count ≤ length words.new) }
+    ensures gather_promise { IfOk result (λ pairs. GatherPromise text.now dict.now pairs bytes.new words.new) }
+    ensures len_in_bounds { IfOk result (λ pairs. (pairs.len ≤ length bytes.new) × (pairs.count ≤ length words.new)) }
 {
     let mut at: usize = 0;
     let mut line: usize = 0;
@@ -131,20 +112,15 @@ pub fn gather(text: &[u8], dict: &[u8], h: Header, bytes: &mut [u8], words: &mut
     let mut count: usize = 0;
     while at < text.len() {
         let end = find(text, at, b'\n');
-        let pair = pair_of(&text[at..end], dict, h, &mut bytes[len..]);
-        if pair.fault != 0 {
-            return no_pairs(pair.fault, line);
-        }
+        let pair = match pair_of(&text[at..end], dict, h, &mut bytes[len..]) {
+            Ok(pair) => pair,
+            Err(fault) => return Err(BadLine { line, fault }),
+        };
         put_pair(words, count, pair.id, len, len + pair.len);
         len += pair.len;
         count += 3;
         line += 1;
         at = end + 1;
     }
-    Pairs {
-        fault: 0,
-        line,
-        len,
-        count,
-    }
+    Ok(Pairs { len, count })
 }
