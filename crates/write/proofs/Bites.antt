@@ -1,8 +1,9 @@
 -- None of three wrong writers meets the promise, by the worked cases: one that writes the empty dictionary always, one that drops a name, one
 -- that keeps doubles. Assumes nothing.
+use Rattle.std.specs.Prelude.{Result, Ok}
 use Rattle.rules.proofs.Prelude.{◌≡◌, sym, ap, ◌∙◌, List, [], ◌∷◌, ◌++◌, ℕ, arith, length, drop, get_or, accept}
 use Rattle.write.specs.declared.Written.{Written}
-use Rattle.write.specs.declared.Written.TheVariants as answer
+use Rattle.write.specs.declared.Refusal.{Refusal}
 use Rattle.write.specs.Writing.{written, room_after}
 use Rattle.write.specs.Answers.{written_numbers}
 use Rattle.write.specs.Promises.{DictionaryPromise}
@@ -14,7 +15,7 @@ use Rattle.write.proofs.Worked.{worked}
 abbrev row : ℕ → List Told → Told
 row k table = get_or table k (record { answer = accept []; left = [] })
 
-module _ (write : (run ends room : List ℕ) → Written) (after : (run ends room : List ℕ) → List ℕ)
+module _ (write : (run ends room : List ℕ) → Result Written Refusal) (after : (run ends room : List ℕ) → List ℕ)
     (meets : (run ends room : List ℕ) → DictionaryPromise run ends room (write run ends room) (after run ends room)) where
   -- one that writes the empty dictionary always
   pub not_always_empty : ((run ends room : List ℕ) → after run ends room ≡ 0x11 ∷ 0x00 ∷ 0x00 ∷ drop 3 room) → ⊥
@@ -35,9 +36,9 @@ module _ (write : (run ends room : List ℕ) → Written) (after : (run ends roo
       let z : ◌≡◌ {A = ℕ} 2 1 = cc in omega arith
 
   -- one that keeps doubles: as many names are written as are given
-  pub not_with_doubles : ((run ends room : List ℕ) (n b : ℕ) → write run ends room ≡ answer.Written n b → n ≡ length ends) → ⊥
+  pub not_with_doubles : ((run ends room : List ℕ) (n b : ℕ) → write run ends room ≡ Ok (record { count = n; length = b }) → n ≡ length ends) → ⊥
   not_with_doubles wrong =
       let ends : List ℕ = 1 ∷ 2 ∷ [] in
       let one : written twice ends (room 5) ≡ accept (1 ∷ 5 ∷ []) = ap (λ (t : List Told). (row 2 t).answer) worked in
-      let so = written_injective (write twice ends (room 5)) (answer.Written 1 5) ((meets twice ends (room 5)).answer ∙ one) in
+      let so = written_injective (write twice ends (room 5)) (Ok (record { count = 1; length = 5 })) ((meets twice ends (room 5)).answer ∙ one) in
       omega (arith, wrong twice ends (room 5) 1 5 so)

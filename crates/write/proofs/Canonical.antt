@@ -3,7 +3,6 @@
 use Rattle.rules.proofs.Prelude.{◌≡◌, refl, ap, List, [], ◌∷◌, ℕ}
 use Rattle.width.specs.Width.{bytes_of}
 use Rattle.put.specs.Numbers.{numbers}
-use Rattle.given.specs.Given as goal
 use Rattle.given.specs.Meaning.{GoodNames}
 use Rattle.given.proofs.Means.{good}
 use Rattle.sets.specs.Sets.{total, collect}

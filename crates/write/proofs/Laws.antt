@@ -1,6 +1,7 @@
 -- What the writer's last steps go by: the sizes, the answers, the room. Assumes nothing.
 use Prim.Native.Nat.{max}
-use Rattle.rules.proofs.Prelude.{◌≡◌, sym, ◌∙◌, List, [], ℕ, ◌+◌, ◌*◌, ◌≤◌, ◌<◌, mul-le-mul_right, arith, length, sets, sets-eq, ◌&◌}
+use Rattle.rules.proofs.Prelude.{◌≡◌, sym, ◌∙◌, List, ℕ, ◌+◌, ◌*◌, ◌≤◌, ◌<◌, mul-le-mul_right, arith, length, sets, sets-eq, ◌&◌}
+use Rattle.std.specs.Prelude.{Result, Ok, Err}
 use Rattle.rules.proofs.Prelude.{refuse, pass, stop, first_at, first_pass, refused, answered, stops, goes}
 use Rattle.dictionary.specs.Limits.{limit}
 use Rattle.given.specs.Given as goal
@@ -12,7 +13,8 @@ use Rattle.fill.specs.Steps.{list_of, Laid}
 use Rattle.lay.proofs.Laws.{width_some, width_few}
 use Rattle.fill.proofs.Laws.{size_is, size_count, size_total}
 use Rattle.write.specs.declared.Written.{Written}
-use Rattle.write.specs.declared.Written.TheVariants as answer
+use Rattle.write.specs.declared.Refusal.{Refusal}
+use Rattle.write.specs.declared.Refusal.TheVariants as refusal
 use Rattle.write.specs.Writing.{size_checks, checks, written, room_after}
 use Rattle.write.specs.Answers.{written_numbers}
 use Rattle.write.specs.Promises.{DictionaryPromise}
@@ -67,11 +69,11 @@ pub has_room : (names : List (List ℕ)) (room : List ℕ) → size names ≤ li
 unfolding size_checks
 has_room names room h k = first_pass _ (h & k & tt)
 
-pub finish_stop : {names : List (List ℕ)} {room : List ℕ} (r : Written) {c p : ℕ} → size_checks names room ≡ stop c p → written_numbers r ≡ refuse c p → Finished names room room r
+pub finish_stop : {names : List (List ℕ)} {room : List ℕ} (r : Result Written Refusal) {c p : ℕ} → size_checks names room ≡ stop c p → written_numbers r ≡ refuse c p → Finished names room room r
 finish_stop r e n = record { answer = n ∙ sym (refused _ e); leaves = rw e }
 
 pub finish_pass : {names : List (List ℕ)} {room after : List ℕ} {count n : ℕ} → size names ≤ limit → size names ≤ length room → count ≡ length names → n ≡ size names
-    → after ≡ sets room 0 (dictionary names) → Finished names room after (answer.Written count n)
+    → after ≡ sets room 0 (dictionary names) → Finished names room after (Ok (record { count = count; length = n }))
 unfolding size
 finish_pass {names} {room} h k c e a =
     let ok = has_room names room h k in
@@ -81,11 +83,11 @@ finish_pass {names} {room} h k c e a =
 -- ALL OF IT
 
 module _ (run ends room : List ℕ) where
-  pub refused_name : (k : ℕ) → stop 45 k ≡ goal.checks run ends → DictionaryPromise run ends room (answer.BadName k) room
+  pub refused_name : (k : ℕ) → stop 45 k ≡ goal.checks run ends → DictionaryPromise run ends room (Err (refusal.BadName k)) room
   unfolding written room_after checks
   refused_name k e =
       record { answer = sym (refused _ (stops _ (sym e))); leaves = rw (stops (size_checks (list_of run ends) room) (sym e)) }
 
-  pub good_names : {after : List ℕ} {r : Written} → pass ≡ goal.checks run ends → Finished (list_of run ends) room after r → DictionaryPromise run ends room r after
+  pub good_names : {after : List ℕ} {r : Result Written Refusal} → pass ≡ goal.checks run ends → Finished (list_of run ends) room after r → DictionaryPromise run ends room r after
   unfolding written room_after checks
   good_names e f = let g = goes (size_checks (list_of run ends) room) (sym e) in record { answer = rw g f.answer; leaves = rw g f.leaves }

@@ -10,7 +10,7 @@ use Rattle.chars.proofs.Laws.{chars}
 use Rattle.chars.proofs.Bounds.{text_first}
 use Rattle.width.specs.Limits.{u32_max}
 use Rattle.dictionary.specs.Limits.{limit}
-use Rattle.dictionary.specs.Dictionary.{sorted, count, offset, start, end, region, name, verdict}
+use Rattle.dictionary.specs.Dictionary.{sorted, count, name, verdict}
 use Rattle.dictionary.specs.Meaning.{Sized, Counted, Placed, Headed, Dictionary, GoodEntry, Cut}
 use Rattle.metadata.proofs.Accepts.{accepts}
 use Rattle.run.specs.Run as run

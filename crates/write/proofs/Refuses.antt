@@ -1,7 +1,6 @@
 -- An answer is given, and each refusal with its place, exactly when document 02 says so (the types of specs/Meaning.antt). Assumes nothing.
 use Rattle.rules.proofs.Prelude.{◌≡◌, refl, ◌∙◌, ◌↔◌, List, [], ◌∷◌, ℕ, length, accept, refuse, pass, stop, ◌&◌}
 use Rattle.rules.proofs.Prelude.{Meant, by_rows, meant_then, meant_map, meant_pass, meant_stop, stops, goes, refused, answered, turned_down, let_through, by_meaning, Answer}
-use Rattle.given.specs.Given as goal
 use Rattle.given.proofs.Means as names
 use Rattle.fill.specs.Bytes.{size}
 use Rattle.fill.specs.Steps.{list_of}

@@ -1,5 +1,6 @@
 -- What each case of the returned answer says, and what the room is then: a refusal is due and the room is as it was; or so many names stand at
 -- its front, in so many bytes, which read back as exactly the set, and the bytes after them are as they were. Assumes nothing.
+use Rattle.std.specs.Prelude.{Result, Ok}
 use Rattle.rules.proofs.Prelude.{◌≡◌, refl, sym, ◌∙◌, ◌↔◌, List, [], ◌∷◌, ◌++◌, ℕ, suc, ◌≤◌, arith, length, take, drop, take_at, length-append, length-drop, accept, refuse, code_of}
 use lib.Seq.{drop_at}
 use Rattle.dictionary.specs.Limits.{limit}
@@ -8,7 +9,7 @@ use Rattle.metadata.proofs.Appended.{appended}
 use Rattle.fill.specs.Bytes.{dictionary, size}
 use Rattle.fill.specs.Steps.{list_of}
 use Rattle.write.specs.declared.Written.{Written}
-use Rattle.write.specs.declared.Written.TheVariants as answer
+use Rattle.write.specs.declared.Refusal.{Refusal as Refused}
 use Rattle.write.specs.Writing.{room_after}
 use Rattle.write.specs.Meaning.{Refusal, Accepted}
 use Rattle.write.specs.Answers.{written_numbers}
@@ -64,7 +65,7 @@ module _ (run ends room : List ℕ) where
   -- OF WHAT THE CODE RETURNED
   module _ (after : List ℕ) where
     -- 45, 10 and 46, exactly when they are due; and then the room is as it was
-    pub returned_refusal : (r : Written) {c p : ℕ} → written_numbers r ≡ refuse c p
+    pub returned_refusal : (r : Result Written Refused) {c p : ℕ} → written_numbers r ≡ refuse c p
         → DictionaryPromise run ends room r after ↔ (Refusal run ends room c p × (after ≡ room))
     returned_refusal r {c} {p} e = (
       λ w. let due = (refuses run ends room c p).0 (sym w.answer ∙ e) in (due, w.leaves ∙ refused_room due),
@@ -72,5 +73,5 @@ module _ (run ends room : List ℕ) where
     )
 
     -- what was written
-    pub returned_written : (n b : ℕ) → DictionaryPromise run ends room (answer.Written n b) after → Accepted run ends room n b × Holds run ends room after b
+    pub returned_written : (n b : ℕ) → DictionaryPromise run ends room (Ok (record { count = n; length = b })) after → Accepted run ends room n b × Holds run ends room after b
     returned_written n b w = let a = (accepts run ends room n b).0 (sym w.answer) in (a, rw w.leaves (holds a))

@@ -1,6 +1,5 @@
 -- THE list of the given names: `list_of` is increasing and has exactly the set of names, and no other list is so. Assumes nothing.
 use Rattle.rules.proofs.Prelude.{◌≡◌, List, ℕ, arith}
-use Rattle.run.specs.Run.{name}
 use Rattle.source.specs.declared.Source.TheVariants as source
 use Rattle.source.specs.Names.{name_of, count_of}
 use Rattle.sets.specs.Sets.{In, Increasing}
