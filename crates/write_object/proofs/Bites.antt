@@ -1,8 +1,10 @@
 -- None of three wrong writers meets the promise, by the worked cases: one that keeps the pairs' order, one that swaps two children, one that
 -- refuses always. Assumes nothing.
 use Prim.Native.Nat.{◌%◌}
+use Rattle.std.specs.Prelude.{Result}
 use Rattle.rules.proofs.Prelude.{◌≡◌, sym, ap, ◌∙◌, List, [], ◌∷◌, ◌++◌, ℕ, arith, get_or, accept, code_of}
 use Rattle.write_object.specs.declared.Built.{Built}
+use Rattle.write_object.specs.declared.Refusal.{Refusal}
 use Rattle.write_object.specs.Writing.{room_after}
 use Rattle.write_object.specs.Answers.{built_numbers}
 use Rattle.write_object.specs.Promises.{ObjectPromise}
@@ -17,7 +19,7 @@ row k table = get_or table k (record { answer = accept []; left = [] })
 abbrev two : ℕ → ℕ → ℕ → ℕ → ℕ → ℕ → List ℕ
 two i a e j b f = i ∷ a ∷ e ∷ j ∷ b ∷ f ∷ []
 
-module _ (write : (d bytes words room : List ℕ) → Built) (after : (d bytes words room : List ℕ) → List ℕ)
+module _ (write : (d bytes words room : List ℕ) → Result Built Refusal) (after : (d bytes words room : List ℕ) → List ℕ)
     (meets : (d bytes words room : List ℕ) → ObjectPromise d bytes words room (write d bytes words room) (after d bytes words room)) where
   -- it writes
   abbrev Writes : (d bytes words room : List ℕ) → Type 0

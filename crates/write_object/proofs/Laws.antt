@@ -1,29 +1,38 @@
 -- What the writer's steps go by: the sizes, the answers, the room. Assumes nothing.
 use Prim.Native.Nat.{max}
-use Rattle.rules.proofs.Prelude.{◌≡◌, refl, sym, ap, ap₂, ◌∙◌, Bool, List, [], ◌∷◌, ◌++◌, ℕ, ◌+◌, ◌*◌, ◌≤◌, ◌<◌, arith, length, drop, sets, sets-eq, ◌&◌}
-use Rattle.rules.proofs.Prelude.{accept, refuse, Found, pass, stop, ◌or_else◌, ◌otherwise◌, first_at, first_pass, refused, answered, stops, goes, unless_refused}
+use Rattle.std.specs.Prelude.{Option, Result, Ok, Err}
+use Rattle.std.specs.Borrow.{Bor}
+use Rattle.rules.proofs.Prelude.{◌≡◌, refl, sym, ap, ◌∙◌, Bool, List, ℕ, ◌+◌, ◌≤◌, ◌<◌, arith, length, sets, sets-eq, ◌&◌}
+use Rattle.rules.proofs.Prelude.{refuse, Found, pass, stop, ◌or_else◌, first_at, first_pass, refused, answered, stops, goes}
 use Rattle.dictionary.specs.Limits.{limit}
+use Rattle.dictionary.specs.declared.Header.{Header}
+use Rattle.dictionary.specs.Dictionary as dictionary
+use Rattle.dictionary.specs.Steps.{HeaderOf}
 use Rattle.sets.specs.Sets.{Distinct, total}
 use Rattle.source.specs.declared.Source.TheVariants as source
 use Rattle.source.specs.Names.{name_of, count_of, Entries, Over, Sound}
-use Rattle.pick.specs.declared.Plan.{Plan}
+use Rattle.pick.specs.Pick.{SortedOf}
+use Rattle.pick.proofs.Laws.{sorted_by}
 use Rattle.doubles.specs.Doubles as doubles
-use Rattle.doubles.specs.Steps.{None}
+use Rattle.doubles.specs.Steps.{Single}
 use Rattle.doubles.proofs.Means.{good}
 use Rattle.source.specs.Pairs.{pairs}
 use Rattle.lay.specs.Bytes.{width_of}
 use Rattle.lay.specs.Steps.{SizesOf}
 use Rattle.lay.proofs.Laws.{width_some, width_few}
-use Rattle.pairs.specs.Checks.{pair_name, largest}
+use Rattle.pairs.specs.declared.ChildRefusal.{ChildRefusal}
+use Rattle.pairs.specs.declared.ChildRefusal.TheVariants as child
+use Rattle.pairs.specs.Checks.{pair_name, largest, range_checks, empty_checks}
+use Rattle.pairs.specs.Steps.{ChildrenOf}
 use Rattle.builder.specs.Bytes.{fields, ids_of, children, start_for, layout, id_width, offset_width, object, start, size}
 use Rattle.builder.specs.Steps.{Ready, Laid}
 use Rattle.builder.proofs.Laws.{layout_length, ids_all, children_all, start_above}
 use Rattle.write_object.specs.declared.Built.{Built}
-use Rattle.write_object.specs.declared.Built.TheVariants as answer
+use Rattle.write_object.specs.declared.Refusal.{Refusal}
 use Rattle.write_object.specs.Writing.{size_checks, checks, written, room_after}
 use Rattle.write_object.specs.Answers.{built_numbers}
 use Rattle.write_object.specs.Promises.{ObjectPromise}
-use Rattle.write_object.specs.Steps.{Left}
+use Rattle.write_object.specs.Steps.{Left, of_child}
 
 -- SIZES
 
@@ -99,26 +108,32 @@ has_room needed room h k = first_pass _ (h & k & tt)
 
 module _ {d bytes words room : List ℕ} where
   -- one of them refuses
-  pub left_stop : {found : Found} (r : Built) {c p : ℕ} → found ≡ stop c p → built_numbers r ≡ refuse c p → Left found d bytes words room room r
+  pub left_stop : {found : Found} (r : Result Built Refusal) {c p : ℕ} → found ≡ stop c p → built_numbers r ≡ refuse c p → Left found d bytes words room room r
   left_stop r e n = record { answer = n ∙ sym (refused _ e); leaves = rw e }
 
   -- the first of them refuses, or passes
-  pub left_first : {found : Found} (rest : Found) (r : Built) {c p : ℕ} → found ≡ stop c p → built_numbers r ≡ refuse c p → Left (found or_else rest) d bytes words room room r
+  pub left_first : {found : Found} (rest : Found) (r : Result Built Refusal) {c p : ℕ} → found ≡ stop c p → built_numbers r ≡ refuse c p → Left (found or_else rest) d bytes words room room r
   left_first rest r e n = left_stop r (stops rest e) n
 
-  pub left_next : {found : Found} (rest : Found) {after : List ℕ} {r : Built} → found ≡ pass → Left rest d bytes words room after r
+  pub left_next : {found : Found} (rest : Found) {after : List ℕ} {r : Result Built Refusal} → found ≡ pass → Left rest d bytes words room after r
       → Left (found or_else rest) d bytes words room after r
   left_next rest e l = rw (goes rest e) l
 
   -- all pass
   pub left_pass : {after : List ℕ} {count v n : ℕ} → size d bytes words ≤ limit → size d bytes words ≤ length room
       → count ≡ pairs words → v ≡ start d bytes words → n ≡ size d bytes words → after ≡ sets room 0 (object d bytes words)
-      → Left (size_checks (size d bytes words) room) d bytes words room after (answer.Built count v n)
+      → Left (size_checks (size d bytes words) room) d bytes words room after (Ok (record { count = count; start = v; length = n }))
   unfolding size
   left_pass h k c v e a =
       let ok = has_room (size d bytes words) room h k in
       let z : 0 + length (object d bytes words) ≡ length (object d bytes words) = omega arith in
       record { answer = rw (c, v, e) (sym (answered _ ok)); leaves = a ∙ rw ok (rw z at (sets-eq (object d bytes words) room 0 (omega arith))) }
+
+  -- a child is refused
+  pub left_child : (e : ChildRefusal) → ChildrenOf bytes words (Err e) → (rest : Found)
+      → Left (range_checks bytes words or_else empty_checks words or_else rest) d bytes words room room (Err (of_child e))
+  left_child (child.Outside k) e rest = left_first _ _ e refl
+  left_child (child.Empty k) e rest = left_next _ e.0 (left_first _ _ e.1 refl)
 
 -- PAIRS as a source of names, over a dictionary that was checked
 
@@ -132,14 +147,19 @@ module _ (d words : List ℕ) (names : ℕ) (sorts : Bool) where
     unfolding Sound
     sound_pairs = (over, entries)
 
-    pub ready : {order : List ℕ} {plan : Plan} → None d words (source.Pairs names sorts) order plan → Ready d words order plan names sorts
-    ready n =
+    pub ready : {order : List ℕ} {plan : Option ℕ} {numbers : Option (Bor (List ℕ))} → Single d words (source.Pairs names sorts) order plan → SortedOf order plan numbers
+        → Ready d words numbers names sorts
+    ready n is =
         let alone = (good (pair_name d words) (pairs words)).0 (sym doubles_are ∙ n.passes) in
-        record { over = over; entries = entries; distinct = alone; planned = n.planned }
+        record { over = over; entries = entries; distinct = alone; sorted = sorted_by _ _ _ _ _ _ n.planned is }
+
+-- a dictionary whose header was read and checked
+pub over_header : (d : List ℕ) (h : Header) → HeaderOf d h × (dictionary.checks d ≡ pass) → Over d h.start h.sorted
+over_header d h c = record { passes = c.1; starts = c.0.start_is; sorted_is = c.0.sorted_is }
 
 -- ALL OF IT
 
-pub promised : {d bytes words room after : List ℕ} {r : Built} → Left (checks d bytes words room) d bytes words room after r → ObjectPromise d bytes words room r after
+pub promised : {d bytes words room after : List ℕ} {r : Result Built Refusal} → Left (checks d bytes words room) d bytes words room after r → ObjectPromise d bytes words room r after
 unfolding written room_after
 promised l = record { answer = l.answer; leaves = l.leaves }
 

@@ -2,39 +2,82 @@
 #![tactic(auto)]
 
 ghost use Rattle.std.specs.Prelude.{◌≡◌};
-ghost use Rattle.rules.specs.Rules.{◌or_else◌};
 ghost use Rattle.source.specs.Pairs.{pairs};
-ghost use Rattle.source.specs.Names.{Entries, Over, GoodRanges};
-ghost use Rattle.doubles.specs.Doubles.{checks as double_checks};
-ghost use Rattle.pairs.specs.Checks.{pair_name, largest, id_checks, range_checks, empty_checks};
+ghost use Rattle.source.specs.Names.{GoodRanges};
+ghost use Rattle.pairs.specs.Checks.{largest};
 ghost use Rattle.builder.specs.Bytes.{size};
 ghost use Rattle.builder.specs.Steps.{Ready};
 ghost use Rattle.write_object.specs.Writing.{size_checks};
-ghost use Rattle.write_object.specs.Steps.{Left};
+ghost use Rattle.write_object.specs.declared.Refusal.TheVariants as refusal;
+ghost use Rattle.write_object.specs.Steps.{Left, of_child};
 ghost use Rattle.write_object.specs.Promises.{ObjectPromise};
 
-use dictionary::{Head, Refusal};
-use doubles::Doubles;
-use lay::Measured;
-use pairs::{Children, Ids};
-use pick::Plan;
+use doubles::Double;
+use lay::TooLong;
+use pairs::{ChildRefusal, NoSuchEntry};
 use source::Source;
 
-// The dictionary's refusals, 25, 26, 45, 28, 20, 46; or what was written: how many fields, where the region starts, and how many bytes.
-#[derive(Drop)]
-pub enum Built {
-    Dictionary(Refusal),
+// What was written: how many fields, where the region starts, and how many bytes.
+#[derive(Clone, Copy)]
+pub struct Built {
+    pub count: usize,
+    pub start: usize,
+    pub length: usize,
+}
+
+// The dictionary's refusals, 25, 26, 45, 28, 20, 46.
+#[derive(Clone, Copy)]
+pub enum Refusal {
+    Dictionary(dictionary::Refusal),
     NoSuchEntry(usize),
     Double(usize),
     Outside(usize),
     EmptyChild(usize),
     TooLong,
     NoRoom,
-    Built {
-        count: usize,
-        start: usize,
-        length: usize,
-    },
+}
+
+impl From<dictionary::Refusal> for Refusal {
+    ghost from_gives = { λ refused r. r ≡ refusal.Dictionary refused };
+
+    fn from(refused: dictionary::Refusal) -> Refusal {
+        Refusal::Dictionary(refused)
+    }
+}
+
+impl From<NoSuchEntry> for Refusal {
+    ghost from_gives = { λ pair r. r ≡ refusal.NoSuchEntry pair.number };
+
+    fn from(pair: NoSuchEntry) -> Refusal {
+        Refusal::NoSuchEntry(pair.number)
+    }
+}
+
+impl From<Double> for Refusal {
+    ghost from_gives = { λ double r. r ≡ refusal.Double double.number };
+
+    fn from(double: Double) -> Refusal {
+        Refusal::Double(double.number)
+    }
+}
+
+impl From<ChildRefusal> for Refusal {
+    ghost from_gives = { λ child r. r ≡ of_child child };
+
+    fn from(child: ChildRefusal) -> Refusal {
+        match child {
+            ChildRefusal::Outside(k) => Refusal::Outside(k),
+            ChildRefusal::Empty(k) => Refusal::EmptyChild(k),
+        }
+    }
+}
+
+impl From<TooLong> for Refusal {
+    ghost from_gives = { λ _ r. r ≡ refusal.TooLong };
+
+    fn from(_long: TooLong) -> Refusal {
+        Refusal::TooLong
+    }
 }
 
 // Once the pairs are known to be good: the sizes, 20, 46, and the bytes. `most` is their largest id; the dictionary's names start at
@@ -43,106 +86,39 @@ fn finish(
     dict: &[u8],
     bytes: &[u8],
     words: &[u32],
-    order: &[u32],
-    plan: Plan,
+    order: Option<&[u32]>,
     room: &mut [u8],
     most: usize,
     names: usize,
     sorted: bool,
-) -> Built
-    requires { Ready dict.now words.now order.now plan names sorted × GoodRanges bytes.now words.now × (most ≡ largest words.now (pairs words.now)) }
+) -> Result<Built, Refusal>
+    requires { Ready dict.now words.now order names sorted × GoodRanges bytes.now words.now × (most ≡ largest words.now (pairs words.now)) }
     ensures { Left (size_checks (size dict.now bytes.now words.now) room.old) dict.now bytes.now words.now room.old room.new result }
 {
-    let sizes = lay::measure(
-        dict,
-        words,
-        bytes,
-        order,
-        plan,
-        Source::Pairs {
-            region: names,
-            sorted,
-        },
+    let kind = Source::Pairs {
+        region: names,
+        sorted,
+    };
+    let sizes = lay::measure(dict, words, bytes, order, kind)?;
+    let count = sizes.count;
+    let wi = lay::width_of(most);
+    let wo = lay::width_of(sizes.sum);
+    let start = builder::region_start(wi, wo, count);
+    let length = start + sizes.sum;
+    if dictionary::LIMIT < length {
+        return Err(Refusal::TooLong);
+    }
+    if room.len() < length {
+        return Err(Refusal::NoRoom);
+    }
+    builder::write_all(
+        dict, bytes, words, order, room, wi, wo, count, start, names, sorted,
     );
-    match sizes {
-        Measured::TooLong => Built::TooLong,
-        Measured::Sizes { count, sum } => {
-            let wi = lay::width_of(most);
-            let wo = lay::width_of(sum);
-            let start = builder::region_start(wi, wo, count);
-            let length = start + sum;
-            if dictionary::LIMIT < length {
-                return Built::TooLong;
-            }
-            if room.len() < length {
-                return Built::NoRoom;
-            }
-            builder::write_all(
-                dict, bytes, words, order, plan, room, wi, wo, count, start, names, sorted,
-            );
-            Built::Built {
-                count,
-                start,
-                length,
-            }
-        }
-    }
-}
-
-// Once no name stands twice: 45, 28, and the rest.
-fn with_children(
-    dict: &[u8],
-    bytes: &[u8],
-    words: &[u32],
-    order: &[u32],
-    plan: Plan,
-    room: &mut [u8],
-    most: usize,
-    names: usize,
-    sorted: bool,
-) -> Built
-    requires { Ready dict.now words.now order.now plan names sorted × (most ≡ largest words.now (pairs words.now)) }
-    ensures { Left (range_checks bytes.now words.now or_else empty_checks words.now or_else size_checks (size dict.now bytes.now words.now) room.old) dict.now bytes.now words.now room.old room.new result }
-{
-    let children = pairs::check_children(bytes, words);
-    match children {
-        Children::Outside(k) => Built::Outside(k),
-        Children::Empty(k) => Built::EmptyChild(k),
-        Children::Good => finish(dict, bytes, words, order, plan, room, most, names, sorted),
-    }
-}
-
-// Once every id is an entry: 26, and the rest.
-fn with_names(
-    dict: &[u8],
-    bytes: &[u8],
-    words: &[u32],
-    order: &mut [u32],
-    spare: &mut [u32],
-    room: &mut [u8],
-    most: usize,
-    names: usize,
-    sorted: bool,
-) -> Built
-    requires { Over dict.now names sorted × Entries dict.now words.now × (most ≡ largest words.now (pairs words.now)) }
-    ensures { Left (double_checks (pair_name dict.now words.now) (pairs words.now) or_else range_checks bytes.now words.now or_else empty_checks words.now or_else size_checks (size dict.now bytes.now words.now) room.old) dict.now bytes.now words.now room.old room.new result }
-{
-    let doubles = doubles::check(
-        dict,
-        words,
-        order,
-        spare,
-        Source::Pairs {
-            region: names,
-            sorted,
-        },
-    );
-    match doubles {
-        Doubles::At(k) => Built::Double(k),
-        Doubles::None(plan) => with_children(
-            dict, bytes, words, order, plan, room, most, names, sorted,
-        ),
-    }
+    Ok(Built {
+        count,
+        start,
+        length,
+    })
 }
 
 // An object of the pairs at the front of `room`: words id, start, end, three a pair, over the dictionary and the bytes of the children.
@@ -155,22 +131,19 @@ pub fn write_object(
     order: &mut [u32],
     spare: &mut [u32],
     room: &mut [u8],
-) -> Built
+) -> Result<Built, Refusal>
     ensures { ObjectPromise dict.now bytes.now words.now room.old result room.new }
 {
-    let head = metadata::checked(dict);
-    match head {
-        Head::Refused(r) => Built::Dictionary(r),
-        Head::Good(h) => {
-            let ids = pairs::check_ids(dict, words, h.count);
-            match ids {
-                Ids::NoSuchEntry(k) => Built::NoSuchEntry(k),
-                Ids::Good(most) => {
-                    with_names(
-                        dict, bytes, words, order, spare, room, most, h.start, h.sorted,
-                    )
-                }
-            }
-        }
-    }
+    let header = metadata::checked(dict)?;
+    let names = header.start;
+    let sorted = header.sorted;
+    let kind = Source::Pairs {
+        region: names,
+        sorted,
+    };
+    let most = pairs::check_ids(dict, words, header.count)?;
+    let plan = doubles::check(dict, words, order, spare, kind)?;
+    pairs::check_children(bytes, words)?;
+    let numbers = pick::sorted(order, plan);
+    finish(dict, bytes, words, numbers, room, most, names, sorted)
 }
