@@ -34,11 +34,11 @@ fn of_refusal(r: nodes::Refusal) -> Words
     }
 }
 
-pub fn of_tree(v: marked::Verdict) -> Words
+pub fn of_tree(v: Result<usize, nodes::Fault>) -> Words
     ensures { list_of result ≡ words_of tree_shape (verdict_numbers v) }
 {
     match v {
-        marked::Verdict::Refused { refusal: r, start } => from(start, of_refusal(r)),
-        marked::Verdict::Accepted { end } => answer(0, 0, 0, end),
+        Ok(end) => answer(0, 0, 0, end),
+        Err(bad) => from(bad.start, of_refusal(bad.refusal)),
     }
 }

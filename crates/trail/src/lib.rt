@@ -7,26 +7,15 @@ ghost use Rattle.layout.specs.Steps.{Few, NumbersOf};
 
 use encoding::Header;
 use layout::{Numbers, Widths};
-use lengths::Length;
 use print::{quoted, say, tell};
 use std::io;
 
-// Child `number` of a container, from byte `start` to byte `end` of it; or none.
-#[derive(Drop)]
+// Child `number` of a container, from byte `start` to byte `end` of it.
+#[derive(Clone, Copy)]
 struct Step {
-    found: bool,
     number: usize,
     start: usize,
     end: usize,
-}
-
-fn none() -> Step {
-    Step {
-        found: false,
-        number: 0,
-        start: 0,
-        end: 0,
-    }
 }
 
 // Whether the child from `start` to `end` of its container is refused for the value at byte `to`: of what its own length does not reach, it is
@@ -42,16 +31,12 @@ fn refuses(dict: &[u8], s: &[u8], start: usize, end: usize, to: usize, depth: us
         return false;
     }
     let child = &s[start..end];
-    if let Length::Known(length) = lengths::own_length(child) {
+    if let Ok(length) = lengths::own_length(child) {
         if length < to - start {
             return false;
         }
     }
-    let verdict = tree::check_at(dict, child, depth);
-    match verdict {
-        marked::Verdict::Refused { .. } => true,
-        marked::Verdict::Accepted { .. } => false,
-    }
+    tree::check_at(dict, child, depth).is_err()
 }
 
 // Where child k ends: an element at the next one's offset, a field's at the trimmed end.
@@ -65,77 +50,60 @@ fn end_of(s: &[u8], w: Widths, l: Numbers, k: usize) -> usize
 }
 
 // The first child that is refused for the value at byte `to`, each met at this depth.
-fn first(dict: &[u8], s: &[u8], w: Widths, l: Numbers, to: usize, depth: usize) -> Step
+fn first(dict: &[u8], s: &[u8], w: Widths, l: Numbers, to: usize, depth: usize) -> Option<Step>
     requires { Few w × NumbersOf s.now w l }
 {
-    let mut k = 0;
-    while k < l.count {
+    for k in 0..l.count {
         let start = l.start + layout::offset_at(s, w, l, k);
         let end = end_of(s, w, l, k);
         if refuses(dict, s, start, end, to, depth) {
-            return Step {
-                found: true,
+            return Some(Step {
                 number: k,
                 start,
                 end,
-            };
+            });
         }
-        k += 1;
     }
-    none()
+    None
 }
 
 // The same of a container whose numbers are of these widths.
-fn child(dict: &[u8], s: &[u8], w: Widths, to: usize, depth: usize) -> Step
+fn child(dict: &[u8], s: &[u8], w: Widths, to: usize, depth: usize) -> Option<Step>
     requires { Few w }
 {
-    let head = layout::read(s, w);
-    match head {
-        layout::Head::Good(l) => first(dict, s, w, l, to, depth),
-        _ => none(),
-    }
+    let l = layout::read(s, w).ok()?;
+    first(dict, s, w, l, to, depth)
 }
 
 // The step from a value that is refused into the child for which it is.
-fn next_step(dict: &[u8], s: &[u8], to: usize, depth: usize) -> Step {
+fn next_step(dict: &[u8], s: &[u8], to: usize, depth: usize) -> Option<Step> {
     if s.len() < 1 {
-        return none();
+        return None;
     }
-    let header = encoding::header_of(s[0]);
-    match header {
+    match encoding::header_of(s[0]) {
         Header::Object(w) => child(dict, s, w, to, depth),
         Header::List(w) => child(dict, s, w, to, depth),
-        _ => none(),
+        _ => None,
     }
 }
 
 fn write_entry(rt: &impl Print, dict: &[u8], id: usize) -> io::Result<()> {
-    let entry = metadata::get(dict, id);
-    match entry {
-        metadata::Entry::Named(name) => {
-            let a = name.start;
-            let e = name.end;
-            if a <= e && e <= dict.len() {
-                return quoted(rt, &dict[a..e]);
-            }
-            Ok(())
+    if let Ok(Some(name)) = metadata::get(dict, id) {
+        if name.start <= name.end && name.end <= dict.len() {
+            return quoted(rt, &dict[name.start..name.end]);
         }
-        _ => Ok(()),
     }
+    Ok(())
 }
 
 // The name of field k.
 fn write_name(rt: &impl Print, dict: &[u8], object: &[u8], k: usize) -> io::Result<()> {
-    let head = layer::read_header(object);
-    match head {
-        layer::Head::Good(l) => {
-            if k < l.count {
-                return write_entry(rt, dict, layer::id_at(object, l, k));
-            }
-            Ok(())
+    if let Ok(l) = layer::read_header(object) {
+        if k < l.count {
+            return write_entry(rt, dict, layer::id_at(object, l, k));
         }
-        layer::Head::Refused(_) => Ok(()),
     }
+    Ok(())
 }
 
 // A step into child k of a container that stands at this depth: `"name"`, `."name"` after another, or `[k]`.
@@ -157,26 +125,20 @@ fn write_step(rt: &impl Print, dict: &[u8], s: &[u8], k: usize, depth: usize) ->
 pub fn write(rt: &impl Print, dict: &[u8], tree: &[u8], to: usize) -> io::Result<()> {
     let mut a = 0;
     let mut e = tree.len();
-    let mut depth = 0;
-    while depth < 32 {
+    for depth in 0..32 {
         if to <= a {
             return Ok(());
         }
         let s = &tree[a..e];
-        let next = next_step(dict, s, to - a, depth + 1);
-        if !next.found {
+        let Some(next) = next_step(dict, s, to - a, depth + 1) else {
             return Ok(());
-        }
-        if next.end < next.start {
-            return Ok(());
-        }
-        if s.len() < next.end {
+        };
+        if next.end < next.start || s.len() < next.end {
             return Ok(());
         }
         write_step(rt, dict, s, next.number, depth)?;
         e = a + next.end;
         a = a + next.start;
-        depth += 1;
     }
     Ok(())
 }
