@@ -1,8 +1,6 @@
 -- A tree is accepted, with the value's own length, exactly when it is a good one in the words of Meaning.antt of `nodes`. Assumes nothing.
-use Rattle.rules.proofs.Prelude.{◌≡◌, refl, sym, ap, ◌∙◌, ◌↔◌, List, [], ◌∷◌, ℕ, zero, suc, ◌-◌, ◌<◌, accept, pass, passed, first}
+use Rattle.rules.proofs.Prelude.{◌≡◌, sym, ap, ◌∙◌, ◌↔◌, List, [], ◌∷◌, ℕ, zero, suc, ◌-◌, accept, pass, passed, first}
 use Rattle.std.specs.Prelude.{Ok}
-use Rattle.part.specs.Part.{part}
-use Rattle.dictionary.specs.Limits.{limit}
 use Rattle.dictionary.specs.Dictionary as dictionary
 use Rattle.metadata.proofs.Means as dictionary-means
 use Rattle.metadata.proofs.Accepts as dictionary-accepts
@@ -15,14 +13,12 @@ use Rattle.layer.specs.Meaning.{Layer}
 use Rattle.object.proofs.Means as object-means
 use Rattle.object.proofs.Accepts as object-accepts
 use Rattle.list.specs.List as list
-use Rattle.list.specs.Meaning.{ListLayer}
 use Rattle.list.proofs.Means as list_means
 use Rattle.leaf.specs.Leaf.{leaf}
-use Rattle.leaf.specs.Meaning.{GoodLeaf}
 use Rattle.leaf.proofs.Means as leaf-means
-use Rattle.nodes.specs.Tree.{Seen, here, field_end, element_end, tree, levels, checks_at, checks, told, verdict, verdict_at}
-use Rattle.nodes.specs.Tree.Seen.{fine, wrong}
-use Rattle.nodes.specs.Meaning.{head_of, IsLeaf, child_of, Good, GoodTree}
+use Rattle.nodes.specs.Tree.{here, field_end, element_end, tree, levels, checks_at, checks, verdict, verdict_at}
+use Rattle.nodes.specs.Tree.Seen.{fine}
+use Rattle.nodes.specs.Meaning.{head_of, IsLeaf, Good, GoodTree}
 use Rattle.nodes.specs.Meaning.Good.{a_leaf, an_object, a_list}
 use Rattle.nodes.proofs.Laws.{wrong_fine, both_fine, here_pass, here_fine, layer_fine, fine_layer, tree_leaf, tree_object, tree_list, object_deep, list_deep, by_head}
 use Rattle.nodes.proofs.Inside.{count_is, start_is, end_of}

@@ -1,7 +1,6 @@
 -- What stands in a good tree is a good tree of its own; and every field of every object in it is found by the lookup on that object, by its name
 -- and as what it is. Assumes nothing.
-use Rattle.rules.proofs.Prelude.{◌≡◌, refl, sym, ◌∙◌, List, [], ◌∷◌, ℕ, suc, ◌≤◌, ◌<◌, arith, length, accept, pass}
-use Rattle.part.specs.Part.{part}
+use Rattle.rules.proofs.Prelude.{◌≡◌, refl, sym, ◌∙◌, List, [], ◌∷◌, ℕ, ◌≤◌, ◌<◌, arith, length, accept, pass}
 use Rattle.part.proofs.Laws.{part_length}
 use Rattle.layout.specs.declared.Widths.{Widths}
 use Rattle.layout.specs.Layout.{count, child_start, end}
@@ -10,9 +9,9 @@ use Rattle.layer.specs.Object as object
 use Rattle.layer.specs.Object.{field_name}
 use Rattle.list.specs.List as list
 use Rattle.lookup.specs.ByName.{lookup}
-use Rattle.lookup.proofs.Found as lookup
+use Rattle.lookup.proofs.Finds as lookup
 use Rattle.object.proofs.Means as object-means
-use Rattle.nodes.specs.Tree.{Seen, field_end, element_end, tree}
+use Rattle.nodes.specs.Tree.{field_end, element_end, tree}
 use Rattle.nodes.specs.Tree.Seen.{fine}
 use Rattle.nodes.specs.Meaning.{head_of, child_of, GoodTree, Inside}
 use Rattle.nodes.specs.Meaning.Inside.{itself, in_object, in_list}

@@ -1,10 +1,10 @@
 -- A value is its own length of bytes: what follows it changes nothing, refusals further in included. And over a dictionary that passes, bytes
 -- added to the dictionary change nothing. Assumes nothing.
-use Rattle.rules.proofs.Prelude.{◌≡◌, refl, sym, ap, ◌∙◌, List, ◌++◌, ℕ, zero, suc, ◌-◌, ◌≤◌, ◌<◌, arith, length, length-append, Found, pass, stop}
+use Rattle.rules.proofs.Prelude.{◌≡◌, refl, sym, ◌∙◌, List, ◌++◌, ℕ, zero, suc, ◌-◌, ◌≤◌, arith, length, length-append, Found, pass, stop}
 use Rattle.std.specs.Prelude.{Ok}
 use Rattle.dictionary.specs.Limits.{limit}
 use Rattle.dictionary.specs.Dictionary as dictionary
-use Rattle.lengths.specs.Lengths.{own_length, bytes_of}
+use Rattle.lengths.specs.Lengths.{own_length}
 use Rattle.lengths.proofs.Appended.{appended}
 use Rattle.layer.specs.Object as object
 use Rattle.object.proofs.Local.{checks_dictionary}

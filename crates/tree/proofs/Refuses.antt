@@ -1,6 +1,6 @@
 -- A tree is refused, with a number, a place and the start of the value that it is of, exactly when that refusal is due in the words of
 -- Meaning.antt of `nodes`; and it is accepted exactly when none is. Assumes nothing.
-use Rattle.rules.proofs.Prelude.{◌≡◌, refl, sym, ap, ◌∙◌, ◌↔◌, ◌⊎◌, inl, inr, List, [], ◌∷◌, ℕ, zero, suc, ◌+◌, ◌≤◌, ◌<◌, dec_lt, arith, length, gives, Found}
+use Rattle.rules.proofs.Prelude.{◌≡◌, refl, sym, ◌∙◌, ◌↔◌, ◌⊎◌, inl, inr, List, [], ◌∷◌, ℕ, zero, suc, ◌+◌, ◌<◌, dec_lt, arith, length, gives, Found}
 use Rattle.rules.proofs.Prelude.{pass, stop, meant_stop}
 use Rattle.dictionary.specs.Limits.{limit}
 use Rattle.dictionary.specs.Dictionary as dictionary
@@ -19,7 +19,7 @@ use Rattle.list.specs.List as list
 use Rattle.list.proofs.Means as list_means
 use Rattle.leaf.specs.Leaf.{leaf}
 use Rattle.leaf.proofs.Means as leaf-means
-use Rattle.nodes.specs.Tree.{Seen, ◌and_then◌, here, from, in_order, child, children, layered, field_end, element_end, tree, checks, verdict, verdict_at}
+use Rattle.nodes.specs.Tree.{Seen, ◌and_then◌, here, in_order, child, children, layered, field_end, element_end, tree, checks, verdict, verdict_at}
 use Rattle.nodes.specs.Tree.Seen.{fine, wrong}
 use Rattle.nodes.specs.Meaning.{head_of, IsLeaf, child_of, GoodTree, Due, Refusal}
 use Rattle.nodes.specs.Meaning.Due.{of_leaf, deep_object, deep_list, of_object, of_list, in_field, in_element}
