@@ -8,12 +8,14 @@ use Rattle.layer.specs.Object.{checks, field_name}
 use Rattle.object.proofs.Accepts.{all_pass}
 use Rattle.object.proofs.Refuses.{is_due}
 use Rattle.object.proofs.Fits.{checks_code}
-use Rattle.lookup.specs.declared.Lookup.{Lookup}
+use Rattle.std.specs.Prelude.{Option, Result}
+use Rattle.layer.specs.declared.Refusal.{Refusal}
+use Rattle.lookup.specs.declared.Found as lookup
 use Rattle.lookup.specs.ByName.{lookup}
 use Rattle.lookup.specs.Meaning.{Found, Absent}
 use Rattle.lookup.specs.Answers.{lookup_numbers}
 use Rattle.lookup.specs.Promises.{GetPromise}
-use Rattle.lookup.proofs.Found as one
+use Rattle.lookup.proofs.Finds as one
 use Rattle.rows.specs.Rows.{row_of}
 use Rattle.many.specs.Many.{row, row_within, rows_after}
 use Rattle.many.specs.Meaning.{Answered, row_at, found_row, absent_row}
@@ -83,7 +85,7 @@ module _ (d o names ends words : List ℕ) (n v e : ℕ) (is : Answered d o name
     row_either = rw row_whole (either_row d o (name names ends k) (all_pass d o n v e is.accepted))
 
     -- whatever `get` returns for that name
-    pub row_of_get : (r : Lookup) → GetPromise d o (name names ends k) r → row_at after k ≡ row_of (lookup_numbers r)
+    pub row_of_get : (r : Result (Option lookup.Found) Refusal) → GetPromise d o (name names ends k) r → row_at after k ≡ row_of (lookup_numbers r)
     row_of_get r promised = row_whole ∙ ap row_of (sym promised)
 
   module _ (j k : ℕ) (first-asked : j < length ends) (then-asked : k < length ends) where

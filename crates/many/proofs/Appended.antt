@@ -12,7 +12,7 @@ use Rattle.object.proofs.Means.{good}
 use Rattle.object.proofs.Refuses.{is_due}
 use Rattle.object.proofs.Appended.{lifted, Settled, unlifted, layer_same, checks_kept}
 use Rattle.lookup.specs.ByName.{lookup}
-use Rattle.lookup.proofs.Found.{by_answer}
+use Rattle.lookup.proofs.Finds.{by_answer}
 use Rattle.lookup.proofs.Appended.{lookup_appended}
 use Rattle.many.specs.Many.{row, row_within, many_checks, many_checks_within, lookups, lookups_within, rows_after, rows_after_within}
 

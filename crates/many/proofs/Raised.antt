@@ -3,7 +3,9 @@
 use Rattle.rules.proofs.Prelude.{◌≡◌, sym, ◌∙◌, List, ℕ, length, each_same}
 use Rattle.object.proofs.Raised.{Within, checks_alike}
 use Rattle.lookup.proofs.Raised.{lookup_alike}
-use Rattle.many.specs.declared.Lookups.{Lookups}
+use Rattle.std.specs.Prelude.{Result}
+use Rattle.object.specs.declared.Accepted.{Accepted}
+use Rattle.many.specs.declared.Refusal.{Refusal}
 use Rattle.many.specs.Many.{row_within, many_checks_within, lookups_within, rows_after_within}
 use Rattle.many.specs.Answers.{lookups_numbers}
 use Rattle.many.proofs.Pinned.{lookups_injective}
@@ -28,6 +30,6 @@ module _ (a b : ℕ) (d o : List ℕ) (in-a : Within a d o) (in_b : Within b d o
     rows_alike = rw (many_checks_alike, each_same (row_within a d o names ends) (row_within b d o names ends) (length ends) (λ k _. row_alike k))
 
   -- the answer of the call, with the words after it (which rows_alike has)
-  pub get_all_alike : (names ends words : List ℕ) (r r' : Lookups) → lookups_numbers r ≡ lookups_within a d o names ends words
+  pub get_all_alike : (names ends words : List ℕ) (r r' : Result Accepted Refusal) → lookups_numbers r ≡ lookups_within a d o names ends words
       → lookups_numbers r' ≡ lookups_within b d o names ends words → r ≡ r'
   get_all_alike names ends words r r' x y = lookups_injective r r' (x ∙ lookups_alike names ends words ∙ sym y)

@@ -7,10 +7,11 @@ use Rattle.metadata.proofs.Pinned.{refusal_by as dictionary_by}
 use Rattle.layer.specs.declared.Refusal.{Refusal}
 use Rattle.layer.specs.Answers.{refusal_number, refusal_place}
 use Rattle.object.proofs.Pinned.{refusal_by, refusal_back}
-use Rattle.lookup.specs.declared.Lookup.{Lookup}
+use Rattle.std.specs.Prelude.{Option, Result, Ok, Err}
+use Rattle.lookup.specs.declared.Found.{Found}
 use Rattle.lookup.specs.Answers.{lookup_numbers}
 use Rattle.lookup.specs.Promises.{GetPromise}
-use Rattle.many.specs.declared.Lookups.TheVariants as lookups
+use Rattle.many.specs.declared.Refusal.TheVariants as refusal
 use Rattle.rows.specs.Rows.{row_of}
 use Rattle.many.specs.Many.{row}
 use Rattle.many.specs.Meaning.{Answered, NoRoom, RefusedAfter, row_at}
@@ -28,7 +29,7 @@ unfolding refusal_by dictionary_by
 not_45 r e = false_true (rw e at (refusal_back (λ _. true) false r))
 
 module _ (d o names ends words after : List ℕ) where
-  pub all_answered : (n v e : ℕ) → GetAllPromise d o names ends words (lookups.Answered n v e) after
+  pub all_answered : (n v e : ℕ) → GetAllPromise d o names ends words (Ok (record { count = n; start = v; end = e })) after
       ↔ (Answered d o names ends words n v e × (after ≡ each (row d o names ends) (length ends) ++ drop (5 * length ends) words))
   all_answered n v e =
       let is = many.answered_is d o names ends words n v e in (
@@ -37,25 +38,25 @@ module _ (d o names ends words after : List ℕ) where
       )
 
   -- and so each name's words are what `get` of that name alone returns
-  pub all_as_get : (n v e : ℕ) → GetAllPromise d o names ends words (lookups.Answered n v e) after → (k : ℕ) → k < length ends
-      → (r : Lookup) → GetPromise d o (name names ends k) r → row_at after k ≡ row_of (lookup_numbers r)
+  pub all_as_get : (n v e : ℕ) → GetAllPromise d o names ends words (Ok (record { count = n; start = v; end = e })) after → (k : ℕ) → k < length ends
+      → (r : Result (Option Found) Refusal) → GetPromise d o (name names ends k) r → row_at after k ≡ row_of (lookup_numbers r)
   all_as_get n v e p k asked r promised = rw p.leaves (row_of_get d o names ends words n v e ((all_answered n v e).0 p).0 k asked r promised)
 
-  pub all_bad_end : (k : ℕ) → GetAllPromise d o names ends words (lookups.BadEnd k) after ↔ (BadEnd names ends k × (after ≡ words))
+  pub all_bad_end : (k : ℕ) → GetAllPromise d o names ends words (Err (refusal.BadEnd k)) after ↔ (BadEnd names ends k × (after ≡ words))
   all_bad_end k =
       let is = many.bad_end_is d o names ends words k in (
         λ p. let b = is.0 (sym p.answers) in (b, p.leaves ∙ many.words_bad_end d o names ends words b),
         λ p. record { answers = sym (is.1 p.0); leaves = p.1 ∙ sym (many.words_bad_end d o names ends words p.0) },
       )
 
-  pub all_no_room : GetAllPromise d o names ends words lookups.NoRoom after ↔ (NoRoom d o names ends words × (after ≡ words))
+  pub all_no_room : GetAllPromise d o names ends words (Err refusal.NoRoom) after ↔ (NoRoom d o names ends words × (after ≡ words))
   all_no_room =
       let is = many.no_room_is d o names ends words in (
         λ p. let r = is.0 (sym p.answers) in (r, p.leaves ∙ many.words_no_room d o names ends words r),
         λ p. record { answers = sym (is.1 p.0); leaves = p.1 ∙ sym (many.words_no_room d o names ends words p.0) },
       )
 
-  pub all_refused : (r : Refusal) → GetAllPromise d o names ends words (lookups.Refused r) after
+  pub all_refused : (r : Refusal) → GetAllPromise d o names ends words (Err (refusal.Layer r)) after
       ↔ (RefusedAfter d o names ends (refusal_number r) (refusal_place r) × (after ≡ words))
   all_refused r =
       let is = many.refused_is d o names ends words (refusal_number r) (refusal_place r) (not_41 r) (not_45 r) in (

@@ -9,6 +9,7 @@ ghost use Rattle.many.specs.Many.{row};
 ghost use Rattle.many.specs.Promises.{GetAllPromise};
 
 use layer::Layer;
+use object::Accepted;
 use rows::{row_of, write_row};
 use spots::{Four, Spot, onward, settle, spots};
 
@@ -25,8 +26,6 @@ fn write_rows(
     requires { Opened dict.now h object.now l × GoodEnds names.now ends.now × (5 * length ends.now ≤ length words.old) }
     ensures { words.new ≡ each (row dict.now object.now names.now ends.now) (length ends.now) ++ drop (5 * length ends.now) words.old }
 {
-    let count = ends.len();
-    let mut k = 0;
     let mut begin = 0;
     let mut at = 0;
     let none = Spot { at: 0, key: 0 };
@@ -36,7 +35,7 @@ fn write_rows(
         third: none,
         fourth: none,
     };
-    while k < count {
+    for k in 0..ends.len() {
         let four = spots(dict, h, object, l, names, ends, k, begin, ahead);
         let end = ends[k] as usize;
         let found = settle(dict, h, object, l, &names[begin..end], four.first);
@@ -44,20 +43,37 @@ fn write_rows(
         ahead = onward(four);
         at += 5;
         begin = end;
-        k += 1;
     }
 }
 
+// 45, at the first name whose end is not good; the dictionary's or the layer's refusals; or 41.
 #[derive(Drop)]
-pub enum Lookups {
+pub enum Refusal {
     BadEnd(usize),
-    Refused(layer::Refusal),
+    Layer(layer::Refusal),
     NoRoom,
-    Answered {
-        count: usize,
-        start: usize,
-        end: usize,
-    },
+}
+
+impl From<run::BadName> for Refusal {
+    ghost use Rattle.std.specs.Prelude.{◌≡◌};
+    ghost use Rattle.many.specs.declared.Refusal.TheVariants.{BadEnd};
+
+    ghost from_gives = { λ bad r. r ≡ BadEnd bad.number };
+
+    fn from(bad: run::BadName) -> Refusal {
+        Refusal::BadEnd(bad.number)
+    }
+}
+
+impl From<layer::Refusal> for Refusal {
+    ghost use Rattle.std.specs.Prelude.{◌≡◌};
+    ghost use Rattle.many.specs.declared.Refusal.TheVariants.{Layer as OfLayer};
+
+    ghost from_gives = { λ refusal r. r ≡ OfLayer refusal };
+
+    fn from(refusal: layer::Refusal) -> Refusal {
+        Refusal::Layer(refusal)
+    }
 }
 
 // Lookup of many names whose ends are good.
@@ -67,35 +83,28 @@ fn get_all_over(
     names: &[u8],
     ends: &[u32],
     words: &mut [u32],
-) -> Lookups
+) -> Result<Accepted, Refusal>
     requires { GoodEnds names.now ends.now }
     ensures { GetAllPromise dict.now object.now names.now ends.now words.old result words.new }
 {
-    let opening = object::open(dict, object);
-    match opening {
-        object::Opening::Refused(r) => Lookups::Refused(r),
-        object::Opening::Open(m) => {
-            let layer = m.layer;
-            if words.len() / 5 < ends.len() {
-                return Lookups::NoRoom;
-            }
-            write_rows(dict, m.header, object, layer, names, ends, words);
-            Lookups::Answered {
-                count: layer.count,
-                start: layer.start,
-                end: layer.end,
-            }
-        }
+    let m = object::open(dict, object)?;
+    if words.len() / 5 < ends.len() {
+        return Err(Refusal::NoRoom);
     }
+    write_rows(dict, m.header, object, m.layer, names, ends, words);
+    Ok(Accepted::from(m.layer))
 }
 
 // Lookup of many names at one check: five words a name, in the order asked.
-pub fn get_all(dict: &[u8], object: &[u8], names: &[u8], ends: &[u32], words: &mut [u32]) -> Lookups
+pub fn get_all(
+    dict: &[u8],
+    object: &[u8],
+    names: &[u8],
+    ends: &[u32],
+    words: &mut [u32],
+) -> Result<Accepted, Refusal>
     ensures { GetAllPromise dict.now object.now names.now ends.now words.old result words.new }
 {
-    let checked = run::check(names, ends);
-    match checked {
-        run::Ends::Bad(k) => Lookups::BadEnd(k),
-        run::Ends::Good => get_all_over(dict, object, names, ends, words),
-    }
+    run::check(names, ends)?;
+    get_all_over(dict, object, names, ends, words)
 }

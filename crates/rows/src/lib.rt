@@ -10,7 +10,7 @@ ghost use Rattle.rows.specs.Rows.{row_of};
 ghost use Rattle.rows.specs.Steps.{InLayer, words_of};
 
 use layer::Layer;
-use lookup::{Search, field_place};
+use lookup::field_place;
 
 // What a name's five words say.
 #[derive(Clone, Copy)]
@@ -22,19 +22,19 @@ pub struct Row {
     pub end: u32,
 }
 
-pub fn row_of(object: &[u8], l: Layer, found: Search) -> Row
+pub fn row_of(object: &[u8], l: Layer, found: Option<usize>) -> Row
     requires { LayerOf object.now l × InLayer object.now (sought_of found) }
     ensures { words_of result ≡ row_of (found_at object.now (sought_of found)) }
 {
     match found {
-        Search::Nowhere => Row {
+        None => Row {
             code: 1,
             field: 0,
             id: 0,
             start: 0,
             end: 0,
         },
-        Search::At(k) => {
+        Some(k) => {
             let place = field_place(object, l, k);
             Row {
                 code: 0,

@@ -11,7 +11,7 @@ ghost use Rattle.lookup.specs.Steps.{sought_of};
 ghost use Rattle.spots.specs.Steps.{Probed, SpotOf, NameAt, SpotsOf, Ahead};
 
 use layer::Layer;
-use lookup::{Search, find};
+use lookup::find;
 
 // `step` where the key p is not above the other, and 0 where it is. A branch would be guessed wrong as often as not; this takes none.
 fn climb(step: usize, key: usize, p: usize) -> usize
@@ -101,24 +101,22 @@ pub fn settle(
     l: Layer,
     name: &[u8],
     spot: Spot,
-) -> Search
+) -> Option<usize>
     requires { Opened dict.now h object.now l × SpotOf dict.now object.now name.now spot }
     ensures { sought_of result ≡ seek (field_name dict.now object.now) name.now (count_of object.now) }
 {
     if l.count == 0 {
-        return Search::Nowhere;
+        return None;
     }
     let id = layer::id_at(object, l, spot.at);
     let there = metadata::span_of(dict, h, id);
-    let a = there.start;
-    let e = there.end;
-    let key = keys::key(dict, a, e);
+    let key = keys::key(dict, there.start, there.end);
     if key < spot.key {
-        return Search::Nowhere;
+        return None;
     }
     if key == spot.key {
-        if keys::same_rest(&dict[a..e], name) {
-            return Search::At(spot.at);
+        if keys::same_rest(&dict[there.start..there.end], name) {
+            return Some(spot.at);
         }
     }
     find(dict, h, object, l, name, spot.at + 1)

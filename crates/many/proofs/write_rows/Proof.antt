@@ -22,12 +22,12 @@ onwards d o names ends k s e = record {
 }
 
 abbrev invariant_loop : tie.invariant-loop-k
-invariant_loop dict h object l names ends words₀ count k₀ begin₀ at₀ ahead₀ words k begin at ahead =
-    (words ≡ each (row dict object names ends) k ++ drop at words₀) × (at ≡ 5 * k) × (k ≤ count) × (begin ≡ begin_of ends k)
+invariant_loop dict h object l names ends words₀ begin₀ at₀ ahead₀ k₀ k_end words begin at ahead k =
+    (words ≡ each (row dict object names ends) k ++ drop at words₀) × (at ≡ 5 * k) × (k ≤ k_end) × (begin ≡ begin_of ends k)
     × (length words ≡ length words₀) × Ahead dict object names ends k ahead
 
 abbrev decreases_loop : tie.decreases-loop-k
-decreases_loop dict h object l names ends words₀ count k₀ begin₀ at₀ ahead₀ words k begin at ahead = count - k
+decreases_loop dict h object l names ends words₀ begin₀ at₀ ahead₀ k₀ k_end words begin at ahead k = k_end - k
 
 pub write_rows_spec : {M : Type 1} → statement M
 unfolding begin_of name

@@ -9,8 +9,8 @@ use Rattle.rows.proofs.row_of.Statement.{statement}
 use Rattle.rows.proofs.row_of.Tie as tie
 
 -- the field that was found, and its child in the object
-inside : (c : tie.In-At) → let s = c in InLayer s.args.object.now (here c.in-At.k)
-inside c = rw (ap sought_of c.in-At.is) at c.requires.1
+inside : (c : tie.In-Some) → let s = c in InLayer s.args.object.now (here c.in-Some.k)
+inside c = rw (ap sought_of c.in-Some.is) at c.requires.1
 
 pub row_of_spec : {M : Type 1} → statement M
 unfolding u32_max
@@ -24,6 +24,6 @@ row_of_spec =
     (λ c. search rules)
     (λ c. omega (arith, (inside c.before.before.before).1))  -- cast-t10
     (λ c. omega (arith, (inside c.before.before.before.before).1))  -- cast-t11
-    (λ c. rw c.in-Nowhere.is)  -- returns
+    (λ c. rw c.in-None.is)  -- returns
     (λ c. let place = c.field_place-place.ensures in
-    rw (c.in-At.is, ← place.0, ← place.1, ← c.id_at.ensures.0)))  -- returns-2
+    rw (c.in-Some.is, ← place.0, ← place.1, ← c.id_at.ensures.0)))  -- returns-2
