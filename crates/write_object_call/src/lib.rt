@@ -9,25 +9,21 @@ ghost use Rattle.write_object_call.specs.Promises.{WriteObjectPromise};
 
 use refusals::of_dictionary_refusal;
 use strip::{STRIP, Words, answer, refusal};
-use write_object::Built;
+use write_object::{Built, Refusal};
 
 // How many fields, where the region starts, and how many bytes; or the dictionary's refusals, 25, 26, 45, 28, 20, 46.
-fn of_built(b: Built) -> Words
+fn of_built(b: Result<Built, Refusal>) -> Words
     ensures { list_of result ≡ words_of layer_shape (built_numbers b) }
 {
     match b {
-        Built::Dictionary(r) => of_dictionary_refusal(r),
-        Built::NoSuchEntry(k) => refusal(25, k),
-        Built::Double(k) => refusal(26, k),
-        Built::Outside(k) => refusal(45, k),
-        Built::EmptyChild(k) => refusal(28, k),
-        Built::TooLong => refusal(20, 0),
-        Built::NoRoom => refusal(46, 0),
-        Built::Built {
-            count,
-            start,
-            length,
-        } => answer(count, 0, start, length),
+        Err(Refusal::Dictionary(r)) => of_dictionary_refusal(r),
+        Err(Refusal::NoSuchEntry(k)) => refusal(25, k),
+        Err(Refusal::Double(k)) => refusal(26, k),
+        Err(Refusal::Outside(k)) => refusal(45, k),
+        Err(Refusal::EmptyChild(k)) => refusal(28, k),
+        Err(Refusal::TooLong) => refusal(20, 0),
+        Err(Refusal::NoRoom) => refusal(46, 0),
+        Ok(b) => answer(b.count, 0, b.start, b.length),
     }
 }
 
