@@ -3,13 +3,13 @@
 
 ghost use Rattle.std.specs.Prelude.{◌≡◌};
 ghost use Rattle.parsing.specs.Answers.{refusal_number as path_number};
-ghost use Rattle.strides.specs.Answers.{refusal_number, refusal_place, stride_numbers};
+ghost use Rattle.strides.specs.Answers.{refusal_number, refusal_place};
 ghost use Rattle.path.specs.Answers.{asked_numbers};
 ghost use Rattle.strip.specs.Shapes.{words_of, lookup_shape, refusal_words};
 ghost use Rattle.strip.specs.Steps.{list_of};
 
+use lookup::Found;
 use refusals::{of_list_refusal, of_object_refusal};
-use strides::Stride;
 use strip::{Words, answer, refusal};
 
 // Refusals 70 to 76.
@@ -38,22 +38,13 @@ fn of_step_refusal(r: strides::Refusal) -> Words
     }
 }
 
-// What the walk came to.
-fn of_stride(s: Stride) -> Words
-    ensures { list_of result ≡ words_of lookup_shape (stride_numbers s) }
+pub fn of_asked(asked: Result<Option<Found>, path::Refusal>) -> Words
+    ensures { list_of result ≡ words_of lookup_shape (asked_numbers asked) }
 {
-    match s {
-        Stride::Refused(r) => of_step_refusal(r),
-        Stride::Absent => refusal(1, 0),
-        Stride::Found(f) => answer(f.field, f.id, f.start, f.end),
-    }
-}
-
-pub fn of_asked(a: path::Asked) -> Words
-    ensures { list_of result ≡ words_of lookup_shape (asked_numbers a) }
-{
-    match a {
-        path::Asked::BadPath(r) => of_path_refusal(r),
-        path::Asked::Walked(s) => of_stride(s),
+    match asked {
+        Err(path::Refusal::Path(r)) => of_path_refusal(r),
+        Err(path::Refusal::Step(r)) => of_step_refusal(r),
+        Ok(None) => refusal(1, 0),
+        Ok(Some(found)) => answer(found.field, found.id, found.start, found.end),
     }
 }

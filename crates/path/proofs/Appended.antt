@@ -17,7 +17,7 @@ use Rattle.steps.specs.Path.{Step}
 use Rattle.steps.specs.Path.Step.{named, indexed}
 use Rattle.steps.specs.Path.Parsed.{steps}
 use Rattle.parsing.specs.Parsing.{answer}
-use Rattle.strides.specs.declared.Spot.{Spot}
+use Rattle.lookup.specs.declared.Found.{Found as Spot}
 use Rattle.strides.specs.Stride.{single, as_step, stride}
 use Rattle.strides.proofs.Answers.{by_single}
 use Rattle.strides.proofs.Inside.{Within, stride_inside}

@@ -10,7 +10,7 @@ use Rattle.parsing.specs.Parsing.{answer, names_after, words_after}
 use Rattle.parsing.specs.ReadBack.{step_at, read_back, Laid}
 use Rattle.parsing.proofs.Laws.{is_of, is_bad}
 use Rattle.parsing.proofs.ReadBack.{laid, read_back_law}
-use Rattle.strides.specs.declared.Spot.{Spot}
+use Rattle.lookup.specs.declared.Found.{Found as Spot}
 use Rattle.strides.specs.Stride.{stride}
 use Rattle.strides.specs.Steps.{Stands}
 use Rattle.strides.proofs.Inside.{stride_inside}

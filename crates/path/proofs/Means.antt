@@ -9,7 +9,7 @@ use Rattle.metadata.proofs.Refuses.{is_due as is-due-dictionary}
 use Rattle.layer.specs.Meaning as object
 use Rattle.object.proofs.Refuses.{is_due}
 use Rattle.object.proofs.Fits.{checks_code}
-use Rattle.lookup.proofs.Found as lookup
+use Rattle.lookup.proofs.Finds as lookup
 use Rattle.elements.specs.Element.{element}
 use Rattle.elements.specs.Meaning as list
 use Rattle.elements.proofs.Means as elements
@@ -19,7 +19,7 @@ use Rattle.steps.specs.Path.Step.{named, indexed}
 use Rattle.parsing.specs.Parsing.{answer}
 use Rattle.parsing.specs.Meaning.{Accepted}
 use Rattle.parsing.proofs.Means as parsing
-use Rattle.strides.specs.declared.Spot.{Spot}
+use Rattle.lookup.specs.declared.Found.{Found as Spot}
 use Rattle.strides.specs.Stride.{as_step, stride}
 use Rattle.path.specs.Path.{whole, handed, onward, walk, asked, by_parsed, by_path}
 use Rattle.path.specs.Meaning.{Ends, Says}

@@ -11,7 +11,7 @@ use Rattle.layer.proofs.Laws.{by_dictionary}
 use Rattle.lookup.specs.ByName.{lookup_within}
 use Rattle.steps.specs.Path.{Step}
 use Rattle.steps.specs.Path.Step.{named, indexed}
-use Rattle.strides.specs.declared.Spot.{Spot}
+use Rattle.lookup.specs.declared.Found.{Found as Spot}
 use Rattle.strides.specs.Stride.{single, as_step, stride}
 use Rattle.strides.proofs.Answers.{by_single}
 use Rattle.path.specs.Path.{whole, handed, spot_of, onward, arrival, walk, asked}

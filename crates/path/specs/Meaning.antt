@@ -11,7 +11,7 @@ use Rattle.elements.specs.Meaning as list
 use Rattle.steps.specs.Path.{Step}
 use Rattle.steps.specs.Path.Step.{named, indexed}
 use Rattle.parsing.specs.Meaning as parsing
-use Rattle.strides.specs.declared.Spot.{Spot}
+use Rattle.lookup.specs.declared.Found.{Found as Spot}
 use Rattle.path.specs.Path.{whole, handed, spot_of, arrival}
 
 -- WHERE A WALK ENDS that has come to `at` by step n

@@ -7,7 +7,7 @@ use Rattle.dictionary.specs.Dictionary as dictionary
 use Rattle.steps.specs.Path.{Step, Parsed}
 use Rattle.steps.specs.Path.Parsed.{refused, steps}
 use Rattle.parsing.specs.Parsing.{answer}
-use Rattle.strides.specs.declared.Spot.{Spot}
+use Rattle.lookup.specs.declared.Found.{Found as Spot}
 use Rattle.strides.specs.Stride.{stride}
 
 -- the whole value, where no step was taken yet: from 0 to its length, whatever it is

@@ -1,7 +1,7 @@
 -- What a single lookup can answer: something found, with four values, or an answer without any. Assumes nothing.
 use Rattle.rules.proofs.Prelude.{List, [], ◌∷◌, ℕ, Found, pass, stop, Answer, accept, gives, ◌otherwise◌}
 use Rattle.dictionary.specs.Dictionary as dictionary
-use Rattle.lookup.proofs.Found as lookup
+use Rattle.lookup.proofs.Finds as lookup
 use Rattle.elements.specs.Element.{element}
 use Rattle.elements.proofs.Means as elements
 use Rattle.steps.specs.Path.{Step}

@@ -3,7 +3,7 @@ use Rattle.rules.proofs.Prelude.{Bool, true, false, cond, eqb, List, ℕ, ◌≤
 use Rattle.rules.proofs.Prelude.{Found, pass, stop, Answer, gives, refuse, ◌otherwise◌}
 use Rattle.dictionary.specs.Dictionary as dictionary
 use Rattle.lookup.specs.ByName.{lookup, start_of, end_of}
-use Rattle.lookup.proofs.Found as lookup
+use Rattle.lookup.proofs.Finds as lookup
 use Rattle.elements.specs.Element.{element}
 use Rattle.elements.proofs.Means as elements
 use Rattle.steps.specs.Path.{Step}

@@ -12,8 +12,7 @@ ghost use Rattle.strides.specs.Stride.{as_step};
 ghost use Rattle.strides.specs.Answers.{refused, stride_numbers};
 ghost use Rattle.strides.specs.Steps.{Stands, StrideOf};
 
-use elements::Element;
-use lookup::Lookup;
+use lookup::Found;
 
 // The dictionary's and an object layer's refusals; a list layer's; and 53 with the step's number, in place of their 22.
 #[derive(Drop)]
@@ -23,20 +22,16 @@ pub enum Refusal {
     WrongKind(usize),
 }
 
-// What stands where a step leads: its field or index, its id, and where it starts and ends.
-#[derive(Clone, Copy)]
-pub struct Spot {
-    pub field: usize,
-    pub id: usize,
-    pub start: usize,
-    pub end: usize,
-}
+impl From<dictionary::Refusal> for Refusal {
+    ghost use Rattle.std.specs.Prelude.{◌≡◌};
+    ghost use Rattle.layer.specs.declared.Refusal.TheVariants.{Dictionary};
+    ghost use Rattle.strides.specs.declared.Refusal.TheVariants.{Layer as OfLayer};
 
-#[derive(Drop)]
-pub enum Stride {
-    Refused(Refusal),
-    Absent,
-    Found(Spot),
+    ghost from_gives = { λ refusal r. r ≡ OfLayer (Dictionary refusal) };
+
+    fn from(refusal: dictionary::Refusal) -> Refusal {
+        Refusal::Layer(refusal.into())
+    }
 }
 
 // A refusal of the object's, as that of step `number`.
@@ -62,46 +57,39 @@ fn of_list(r: elements::Refusal, number: usize) -> Refusal
 }
 
 // A name, in an object.
-fn by_name(dict: &[u8], h: dictionary::Header, value: &[u8], name: &[u8], number: usize) -> Stride
+fn by_name(
+    dict: &[u8],
+    h: dictionary::Header,
+    value: &[u8],
+    name: &[u8],
+    number: usize,
+) -> Result<Option<Found>, Refusal>
     requires { Over dict.now h }
     ensures { StrideOf dict.now value.now number (named name.now) result }
 {
-    let found = lookup::get_over(dict, h, value, name);
-    match found {
-        Lookup::Refused(r) => Stride::Refused(of_object(r, number)),
-        Lookup::Absent => Stride::Absent,
-        Lookup::Found {
-            field,
-            id,
-            start,
-            end,
-        } => Stride::Found(Spot {
-            field,
-            id,
-            start,
-            end,
-        }),
+    match lookup::get_over(dict, h, value, name) {
+        Ok(found) => Ok(found),
+        Err(r) => Err(of_object(r, number)),
     }
 }
 
 // An index, in a list.
-fn by_index(value: &[u8], index: usize, number: usize) -> Stride
+fn by_index(value: &[u8], index: usize, number: usize) -> Result<Option<Found>, Refusal>
     ensures { stride_numbers result ≡ as_step number (element value.now index) }
 {
-    let found = elements::get(value, index);
-    match found {
-        Element::Refused(r) => Stride::Refused(of_list(r, number)),
-        Element::Absent => Stride::Absent,
-        Element::Found { start, end } => Stride::Found(Spot {
+    match elements::get(value, index) {
+        Ok(None) => Ok(None),
+        Ok(Some(span)) => Ok(Some(Found {
             field: index,
             id: 0,
-            start,
-            end,
-        }),
+            start: span.start,
+            end: span.end,
+        })),
+        Err(r) => Err(of_list(r, number)),
     }
 }
 
-// The step that three words say, from `row` on, into a value, over a dictionary that passed its checks.
+// What stands where the step leads that three words say, from `row` on, into a value, over a dictionary that passed its checks.
 pub fn take(
     dict: &[u8],
     h: dictionary::Header,
@@ -110,7 +98,7 @@ pub fn take(
     words: &[u32],
     row: usize,
     number: usize,
-) -> Stride
+) -> Result<Option<Found>, Refusal>
     requires { Over dict.now h × Stands names.now words.now row }
     ensures { StrideOf dict.now value.now number (step_at names.now words.now row) result }
 {
