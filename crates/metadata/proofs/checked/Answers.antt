@@ -1,6 +1,5 @@
 -- `metadata::checked` meets its contract: the header's checks, then those of the region. Assumes nothing.
 use Rattle.std.proofs.lemmas.Result.{err_from_is_err_and}
-use Rattle.rules.proofs.Prelude.{sym}
 use Rattle.dictionary.proofs.Laws.{by_head}
 use Rattle.metadata.proofs.checked.Goals as goal
 
@@ -8,11 +7,3 @@ pub returns-in_err-h : goal.returns-in_err-h
 returns-in_err-h c =
     let p = err_from_is_err_and c.from_residual.result c.from_residual.ensures.1 in
     rw (p.1, p.2) (by_head _ c.in_err-h.ensures)
-
-pub returns-in_err-check_region : goal.returns-in_err-check_region
-returns-in_err-check_region c =
-    let p = err_from_is_err_and c.from_residual-in_err-check_region.result c.from_residual-in_err-check_region.ensures.1 in
-    rw (p.1, p.2) (sym c.in_err-check_region.ensures)
-
-pub returns : goal.returns
-returns c = (c.in_ok-h.ensures, sym c.in_ok-check_region.ensures)
