@@ -1,5 +1,5 @@
 -- `dictionary_calls::empty` meets its contract: the code of the answer. Assumes nothing.
-use Rattle.rules.proofs.Prelude.{sym, ap, ◌∙◌, rules, code_of}
+use Rattle.rules.proofs.Prelude.{sym, ap, ◌∙◌, code_of}
 use Rattle.metadata.specs.Answers.{written_numbers}
 use Rattle.dictionary_calls.proofs.empty.Goals as goal
 
