@@ -49,11 +49,13 @@ fn of_lines(
 {
     let mut bytes = room::bytes();
     let mut words = word_room();
-    let pairs = pairing::gather(text, dict, h, &mut bytes, &mut words);
-    if pairs.fault != 0 {
-        unwritten::pair(to, pairs.line, pairs.fault)?;
-        return Ok(None);
-    }
+    let pairs = match pairing::gather(text, dict, h, &mut bytes, &mut words) {
+        Ok(pairs) => pairs,
+        Err(bad) => {
+            unwritten::pair(to, bad.line, bad.fault)?;
+            return Ok(None);
+        }
+    };
     let n = pairs.len;
     let k = pairs.count;
     let a = assemble(dict, &bytes[0..n], &words[0..k], out);

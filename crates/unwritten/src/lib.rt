@@ -1,6 +1,7 @@
 // Why nothing is written of lines, as words to `to`: what is here promises safety only.
 #![tactic(auto)]
 
+use pairing::Fault;
 use print::room::use_library;
 use print::tell_to;
 use reasons::{above_limit, meaning_of_dictionary, number_to};
@@ -51,7 +52,11 @@ pub fn dictionary(to: &mut impl Write, code: usize, place: usize, most: usize) -
 
 // The number, and which pair of which line it is of.
 fn pair_number(to: &mut impl Write, code: usize, place: usize) -> io::Result<()> {
-    write!(to, "refused {code} at pair {place}, line {}", line_of(place))
+    write!(
+        to,
+        "refused {code} at pair {place}, line {}",
+        line_of(place)
+    )
 }
 
 // Of an object that was to be written of pairs that are lines.
@@ -65,18 +70,18 @@ pub fn object(to: &mut impl Write, code: usize, place: usize, most: usize) -> io
     tell_to(to, b"\n")
 }
 
-fn meaning_of_fault(to: &mut impl Write, fault: usize) -> io::Result<()> {
+fn meaning_of_fault(to: &mut impl Write, fault: Fault) -> io::Result<()> {
     match fault {
-        1 => tell_to(to, b"an odd number of hex digits"),
-        2 => tell_to(to, b"a character that is no hex digit"),
-        3 => tell_to(to, b"more bytes than there is room for"),
-        4 => tell_to(to, b"no space between a name and hex digits"),
-        _ => tell_to(to, b"its name is no entry of the dictionary"),
+        Fault::Hex(text::Fault::Odd) => tell_to(to, b"an odd number of hex digits"),
+        Fault::Hex(text::Fault::NoDigit) => tell_to(to, b"a character that is no hex digit"),
+        Fault::Hex(text::Fault::Long) => tell_to(to, b"more bytes than there is room for"),
+        Fault::NoSpace => tell_to(to, b"no space between a name and hex digits"),
+        Fault::NoEntry => tell_to(to, b"its name is no entry of the dictionary"),
     }
 }
 
 // Of a line that is no pair: the line's number from 0 on, and its fault.
-pub fn pair(to: &mut impl Write, line: usize, fault: usize) -> io::Result<()> {
+pub fn pair(to: &mut impl Write, line: usize, fault: Fault) -> io::Result<()> {
     write!(to, "line {}: ", line_of(line))?;
     meaning_of_fault(to, fault)?;
     tell_to(to, b"\n")
