@@ -32,7 +32,7 @@ use Rattle.layer.proofs.Laws.{ids_before, offsets_before, count_below, start_bef
 use Rattle.object.proofs.Accepts.{accepts}
 use Rattle.object.proofs.Appended.{Settled, field_same, verdict_appended}
 use Rattle.lookup.specs.ByName.{absent, lookup}
-use Rattle.lookup.proofs.Found.{found, found_at, found_inside, absent_is}
+use Rattle.lookup.proofs.Finds.{found, found_at, found_inside, absent_is}
 use Rattle.lookup.proofs.Appended.{lookup_appended}
 use Rattle.layered.proofs.Readings.{Reads, children_many, names_many, field_pair, field_id, field_child, reads}
 
