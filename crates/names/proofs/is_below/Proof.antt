@@ -14,7 +14,7 @@ is_below_spec =
     tie.close
     (tie.spec
     (λ c κs. search rules) (λ c κs. search rules) (λ c κs. tt)
-    (λ c. rw (← c.compare_bytes.ensures) c.is_lt.ensures)  -- returns
+    (λ c. rw (← c.compare_bytes.ensures) (search rules))  -- returns
     (λ c κs. search rules) (λ c κs. search rules)
     (λ c. let h = c in let a = h.args in
     let law = word_decides a.a.now a.b.now h.shared_slice_known-1.given h.shared_slice_known-2-1.given in
