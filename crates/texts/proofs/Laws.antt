@@ -3,7 +3,7 @@
 use Rattle.rules.proofs.Prelude.{◌≡◌, sym, List, ◌++◌, ℕ, ◌+◌, ◌-◌, ◌≤◌, ◌<◌, dec_lt, arith, false_true}
 use Rattle.rules.proofs.Prelude.{length, drop, length-drop, take-add, drop-drop}
 use lib.Seq.{take-length, drop-length, get_or-drop}
-use Rattle.std.specs.Prelude.{Result, Ok, Err, is_ok, ⊤}
+use Rattle.std.specs.Prelude.{Bool, Result, Ok, Err, is_ok, ⊤}
 use Rattle.part.specs.declared.Span.{Span}
 use Rattle.part.specs.Part.{part}
 use Rattle.part.proofs.Laws.{part_length, part_at, part_part}
@@ -93,8 +93,8 @@ no_text : (s : List ℕ) (p : ℕ) → LongestText s p → Text s → ⊥
 no_text s p l t = omega (arith, l.short, longest_is s p l, text_whole s t)
 
 -- so a verdict says whether bytes are text
-pub verdict_tells : (s : List ℕ) (r : Result ⊤ Flaw) → CheckPromise s r → Tells s (is_ok r)
-verdict_tells s r e = go r ((judges s r).0 e)
+pub verdict_tells : (s : List ℕ) (r : Result ⊤ Flaw) (b : Bool) → CheckPromise s r → b ≡ is_ok r → Tells s b
+verdict_tells s r b e same = rw same (go r ((judges s r).0 e))
   where
     go : (r : Result ⊤ Flaw) → Judged s r → Tells s (is_ok r)
     go (Ok _) (whole t) = record { if_so = λ _. t; if_not = λ f _. false_true (sym f) }

@@ -10,6 +10,7 @@ ghost use Rattle.texts.specs.Known.{KnownOf, Tells, JudgedOf, Starts};
 use part::Span;
 
 // Whether the bytes from i to j are text.
+#[tactic(auto, using(crate::proofs::Laws::verdict_tells))]
 pub fn is_text(whole: &[u8], i: usize, j: usize) -> bool
     requires { (i ≤ j) × (j ≤ length whole.now) }
     ensures { Tells (part whole.now i j) result }
