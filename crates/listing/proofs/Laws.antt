@@ -1,5 +1,5 @@
 -- Where a child lies, and how far its span reaches. Assumes nothing.
-use Rattle.rules.proofs.Prelude.{◌≡◌, List, ℕ, ◌+◌, ◌-◌, ◌≤◌, arith, length}
+use Rattle.rules.proofs.Prelude.{◌≡◌, List, ℕ, ◌+◌, ◌≤◌, arith, length}
 use Rattle.part.specs.Part.{part}
 use Rattle.part.proofs.Laws.{part_length}
 use Rattle.lengths.proofs.Means.{bytes_at_hand}

@@ -2,7 +2,7 @@
 -- The span is the child's own length. Assumes nothing.
 use Rattle.rules.proofs.Prelude.{◌≡◌, List, ℕ, ◌+◌, ◌*◌, ◌≤◌, ◌<◌, add-zero, arith, get_or}
 use Rattle.rules.proofs.Rows.{row_word}
-use Rattle.lengths.specs.declared.Length.TheVariants.{Known}
+use Rattle.std.specs.Prelude.{Ok}
 use Rattle.lengths.specs.Lengths.{own_length}
 use Rattle.lengths.proofs.Means.{exactly_when}
 use Rattle.lengths.proofs.Appended.{some_bytes}
@@ -36,7 +36,7 @@ module _ (d o w : List ℕ) (n v e k : ℕ) (l : Listed d o w n v e) (p : k < n)
   here : k < count o
   here = omega (arith, l.accepted.counts)
 
-  pub own_length_law : own_length (child o k) ≡ Known (span o k)
+  pub own_length_law : own_length (child o k) ≡ Ok (span o k)
   own_length_law = (exactly_when (child o k) _).1 (l.spans k here)
 
   pub span_some : 0 < span o k

@@ -1,7 +1,7 @@
 -- What the listing's checks come to, row by row, in the words of specs/Meaning.antt. Assumes nothing.
 use Rattle.rules.proofs.Prelude.{◌≡◌, refl, sym, ap, ◌∙◌, Bool, true, false, List, [], ◌∷◌, ℕ, ◌*◌, ◌<◌, length, Passed, ◌<?◌, ◌⇒◌at◌}
 use Rattle.rules.proofs.Prelude.{◌&◌, false_true, Meant, by_rows, by_each, meant_then, meant_map}
-use Rattle.lengths.specs.declared.Length.TheVariants.{Known}
+use Rattle.std.specs.Prelude.{Ok}
 use Rattle.lengths.specs.Lengths.{own_length, is_known}
 use Rattle.lengths.specs.Meaning.{Due}
 use Rattle.lengths.proofs.Means.{exactly_when, is_known_law}
@@ -22,10 +22,10 @@ module _ (o : List ℕ) (k : ℕ) where
   unfolding span_rules
   spans_passed s = rw ((exactly_when (child o k) _).1 s) (refl & tt)
 
-  pub none_known : is_known (own_length (child o k)) ≡ false → (n : ℕ) → Due (child o k) (Known n) → ⊥
-  none_known b n d = false_true (sym b ∙ ap is_known ((exactly_when (child o k) (Known n)).1 d))
+  pub none_known : is_known (own_length (child o k)) ≡ false → (n : ℕ) → Due (child o k) (Ok n) → ⊥
+  none_known b n d = false_true (sym b ∙ ap is_known ((exactly_when (child o k) (Ok n)).1 d))
 
-  pub known_none : ((n : ℕ) → Due (child o k) (Known n) → ⊥) → is_known (own_length (child o k)) ≡ false
+  pub known_none : ((n : ℕ) → Due (child o k) (Ok n) → ⊥) → is_known (own_length (child o k)) ≡ false
   known_none none = go (is_known (own_length (child o k))) refl
     where
       go : (b : Bool) → is_known (own_length (child o k)) ≡ b → b ≡ false

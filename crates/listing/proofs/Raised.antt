@@ -2,7 +2,9 @@
 -- within. The call's own promise is the one under `limit`. Assumes nothing.
 use Rattle.rules.proofs.Prelude.{◌≡◌, sym, ◌∙◌, List, ℕ}
 use Rattle.object.proofs.Raised.{Within, checks_alike}
-use Rattle.listing.specs.declared.Listing.{Listing}
+use Rattle.std.specs.Prelude.{Result}
+use Rattle.object.specs.declared.Accepted.{Accepted}
+use Rattle.listing.specs.declared.Refusal.{Refusal}
 use Rattle.listing.specs.Words.{list_checks_within, listed_within, words_after_within}
 use Rattle.listing.specs.Answers.{listing_numbers}
 use Rattle.listing.proofs.Pinned.{listing_injective}
@@ -22,5 +24,5 @@ module _ (a b : ℕ) (d o words : List ℕ) (in-a : Within a d o) (in_b : Within
   words_alike = rw list_checks_alike
 
   -- the answer of the call (the words after it: words-alike)
-  pub list_alike : (r r' : Listing) → listing_numbers r ≡ listed_within a d o words → listing_numbers r' ≡ listed_within b d o words → r ≡ r'
+  pub list_alike : (r r' : Result Accepted Refusal) → listing_numbers r ≡ listed_within a d o words → listing_numbers r' ≡ listed_within b d o words → r ≡ r'
   list_alike r r' x y = listing_injective r r' (x ∙ listed_alike ∙ sym y)

@@ -1,21 +1,13 @@
--- What the measuring of all children answers, and what is answered by it, in the words of Words.antt. Assumes nothing.
-use Rattle.std.specs.Prelude.{Bool, true, false}
+-- What the measuring of all children answers, in the words of Words.antt. Assumes nothing.
+use Rattle.std.specs.Prelude.{Result, Ok, Err, ⊤}
 use Rattle.rules.specs.Rules.{Found}
 use Rattle.rules.specs.Rules.Found.{pass, stop}
-use Rattle.layer.specs.declared.Layer.{Layer}
-use Rattle.listing.specs.declared.Measured.{Measured}
-use Rattle.listing.specs.declared.Measured.TheVariants as measured
-use Rattle.listing.specs.declared.Listing.{Listing}
-use Rattle.listing.specs.declared.Listing.TheVariants as listing
+use Rattle.listing.specs.declared.Refusal.{Refusal}
+use Rattle.listing.specs.Answers.{refusal_number, refusal_place}
 
-abbrev pub found_of : Measured → Found
-found_of (measured.NoLength k) = stop 43 k
-found_of measured.All = pass
+abbrev pub stop_of : Refusal → Found
+stop_of r = stop (refusal_number r) (refusal_place r)
 
-abbrev pub is_all : Measured → Bool
-is_all (measured.NoLength k) = false
-is_all measured.All = true
-
-abbrev pub answer_of : Measured → Layer → Listing
-answer_of (measured.NoLength k) l = listing.NoLength k
-answer_of measured.All l = listing.Listed l.count l.start l.end
+abbrev pub found_of : Result ⊤ Refusal → Found
+found_of (Err r) = stop_of r
+found_of (Ok _) = pass

@@ -1,34 +1,40 @@
 // The listing of an object's fields into lent words.
 #![tactic(auto)]
 
-ghost use Rattle.std.specs.Prelude.{◌≡◌, ◌&&◌, ◌++◌, ℕ, ◌*◌, ◌≤◌, ◌<◌, length, drop};
+ghost use Rattle.std.specs.Prelude.{◌≡◌, ◌++◌, ℕ, ◌*◌, ◌≤◌, ◌<◌, length, drop};
 ghost use Rattle.rules.specs.Rules.{first, each};
 ghost use Rattle.lengths.specs.Lengths.{own_length};
 ghost use Rattle.layer.specs.Object.{count as count_of};
 ghost use Rattle.layer.specs.Meaning.{InRegion};
 ghost use Rattle.layer.specs.Steps.{LayerOf};
 ghost use Rattle.listing.specs.Words.{child as child_of, span_rules, rows};
-ghost use Rattle.listing.specs.Steps.{found_of, is_all, answer_of};
+ghost use Rattle.listing.specs.Steps.{found_of};
 ghost use Rattle.listing.specs.Promises.{ListPromise};
 
 use layer::Layer;
-use object::Opening;
+use object::Accepted;
 
-// The layer's refusals; 43, at the first field whose child has no own length; 41; or the layer's numbers.
+// The layer's refusals; 43, at the first field whose child has no own length; or 41.
 #[derive(Drop)]
-pub enum Listing {
-    Refused(layer::Refusal),
+pub enum Refusal {
+    Layer(layer::Refusal),
     NoLength(usize),
     NoRoom,
-    Listed {
-        count: usize,
-        start: usize,
-        end: usize,
-    },
+}
+
+impl From<layer::Refusal> for Refusal {
+    ghost use Rattle.std.specs.Prelude.{◌≡◌};
+    ghost use Rattle.listing.specs.declared.Refusal.TheVariants.{Layer as OfLayer};
+
+    ghost from_gives = { λ refusal r. r ≡ OfLayer refusal };
+
+    fn from(refusal: layer::Refusal) -> Refusal {
+        Refusal::Layer(refusal)
+    }
 }
 
 // The own length of field k's child.
-fn own_length(object: &[u8], l: Layer, k: usize) -> lengths::Length
+fn own_length(object: &[u8], l: Layer, k: usize) -> Result<usize, lengths::Flaw>
     requires { LayerOf object.now l × (k < count_of object.now) × InRegion object.now k }
     ensures { result ≡ own_length (child_of object.now k) }
 {
@@ -37,61 +43,18 @@ fn own_length(object: &[u8], l: Layer, k: usize) -> lengths::Length
     lengths::own_length(&object[start..end])
 }
 
-// What the measuring of all children comes to.
-#[derive(Clone, Copy)]
-enum Measured {
-    NoLength(usize),
-    All,
-}
-
 // Check 43, field by field.
-fn measure(object: &[u8], l: Layer) -> Measured
+fn measure(object: &[u8], l: Layer) -> Result<(), Refusal>
     requires { LayerOf object.now l × ((k : ℕ) → k < count_of object.now → InRegion object.now k) }
     ensures { found_of result ≡ first (each (span_rules object.now) (count_of object.now)) }
 {
-    let count = l.count;
-    let mut k = 0;
-    while k < count {
+    for k in 0..l.count {
         let known = lengths::is_known(own_length(object, l, k));
         if !known {
-            return Measured::NoLength(k);
+            return Err(Refusal::NoLength(k));
         }
-        k += 1;
     }
-    Measured::All
-}
-
-fn has_all(measured: Measured) -> bool
-    ensures { result ≡ is_all measured }
-{
-    match measured {
-        Measured::NoLength(_) => false,
-        Measured::All => true,
-    }
-}
-
-// Check 41, after 43: `short` says that the words are fewer than three a field.
-fn lacks_room(measured: Measured, short: bool) -> bool
-    ensures { result ≡ (short && is_all measured) }
-{
-    if short {
-        return has_all(measured);
-    }
-    false
-}
-
-// What is answered where there is room.
-fn answer(measured: Measured, l: Layer) -> Listing
-    ensures { result ≡ answer_of measured l }
-{
-    match measured {
-        Measured::NoLength(k) => Listing::NoLength(k),
-        Measured::All => Listing::Listed {
-            count: l.count,
-            start: l.start,
-            end: l.end,
-        },
-    }
+    Ok(())
 }
 
 // The words of all fields: id, start, span. A span is measured again: to keep those of the check there is no room.
@@ -101,36 +64,26 @@ fn write_rows(object: &[u8], l: Layer, words: &mut [u32])
 {
     let fields = l.count;
     let mut at = 0;
-    let mut k = 0;
-    while k < fields {
+    for k in 0..fields {
         let offset = layer::offset_at(object, l, k);
         let span = lengths::bytes_of(own_length(object, l, k));
         words[at] = layer::id_at(object, l, k) as u32;
         words[at + 1] = (l.start + offset) as u32;
         words[at + 2] = span as u32;
         at += 3;
-        k += 1;
     }
 }
 
 // The listing of the fields into lent words, all of them measured before the first is written.
-pub fn list(dict: &[u8], object: &[u8], words: &mut [u32]) -> Listing
+pub fn list(dict: &[u8], object: &[u8], words: &mut [u32]) -> Result<Accepted, Refusal>
     ensures { ListPromise dict.now object.now words.old result words.new }
 {
-    let opening = object::open(dict, object);
-    match opening {
-        Opening::Refused(r) => Listing::Refused(r),
-        Opening::Open(m) => {
-            let l = m.layer;
-            let measured = measure(object, l);
-            if lacks_room(measured, words.len() < 3 * l.count) {
-                return Listing::NoRoom;
-            }
-            if !has_all(measured) {
-                return answer(measured, l);
-            }
-            write_rows(object, l, words);
-            answer(measured, l)
-        }
+    let m = object::open(dict, object)?;
+    let l = m.layer;
+    measure(object, l)?;
+    if words.len() < 3 * l.count {
+        return Err(Refusal::NoRoom);
     }
+    write_rows(object, l, words);
+    Ok(Accepted::from(l))
 }

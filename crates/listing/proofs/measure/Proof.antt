@@ -1,5 +1,5 @@
 -- `listing::measure` meets its contract: the loop keeps that the children before k have their own length. Assumes nothing.
-use Rattle.rules.proofs.Prelude.{◌≡◌, ◌∙◌, sym, ap, ◌-◌, ◌≤◌, arith, first, each, pass, first_at, first_pass, each_none, each_more, each_stop, ◌&◌, not-true, not-false}
+use Rattle.rules.proofs.Prelude.{◌≡◌, ◌∙◌, sym, ap, ◌-◌, ◌≤◌, arith, first, each, pass, first_at, first_pass, each_none, each_more, each_stop, ◌&◌}
 use Rattle.lengths.specs.Lengths.{is_known}
 use Rattle.layer.specs.Object.{count as count_of}
 use Rattle.layer.proofs.Laws.{count_below}
@@ -8,10 +8,10 @@ use Rattle.listing.proofs.measure.Statement.{statement}
 use Rattle.listing.proofs.measure.Tie as tie
 
 abbrev invariant_loop : tie.invariant-loop-k
-invariant_loop object l count k₀ k = (k ≤ count) × (first (each (span_rules object) k) ≡ pass)
+invariant_loop object l k₀ k_end k = (k ≤ k_end) × (first (each (span_rules object) k) ≡ pass)
 
 abbrev decreases_loop : tie.decreases-loop-k
-decreases_loop object l count k₀ k = count - k
+decreases_loop object l k₀ k_end k = k_end - k
 
 pub measure_spec : {M : Type 1} → statement M
 unfolding span_rules
