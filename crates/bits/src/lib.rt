@@ -1,15 +1,15 @@
 // A value's answer as the six words of a strip: its kind, and its 64 bits in two words.
 #![tactic(auto)]
 
-ghost use Rattle.std.specs.Prelude.{◌≡◌, [], ◌∷◌};
+ghost use Rattle.std.specs.Prelude.{◌≡◌, [], ◌∷◌, Ok};
 ghost use Rattle.number.specs.Signed.{extended as extended_of};
 ghost use Rattle.value.specs.declared.Value.TheVariants.{Bool as Truth};
-ghost use Rattle.value.specs.Answers.{in_two, value_numbers, Numeral};
+ghost use Rattle.value.specs.Answers.{in_two, kind_number, value_numbers, Numeral};
 ghost use Rattle.strip.specs.Shapes.{words_of, value_shape};
 ghost use Rattle.strip.specs.Steps.{list_of};
 
 use strip::{Words, answer, refusal};
-use value::Value;
+use value::{Kind, Refusal, Value};
 
 // A signed number's bits: from the last of the range down, where it is below zero.
 fn extended(z: i64) -> u64
@@ -38,7 +38,7 @@ fn in_one(kind: usize, bits: u32) -> Words
 }
 
 fn of_truth(b: bool) -> Words
-    ensures { list_of result ≡ words_of value_shape (value_numbers (Truth b)) }
+    ensures { list_of result ≡ words_of value_shape (value_numbers (Ok (Truth b))) }
 {
     if b {
         return answer(1, 0, 0, 0);
@@ -46,9 +46,22 @@ fn of_truth(b: bool) -> Words
     answer(2, 0, 0, 0)
 }
 
-pub fn of_value(v: Value) -> Words
-    requires { Numeral v }
-    ensures { list_of result ≡ words_of value_shape (value_numbers v) }
+// The number of a kind of bytes: the primitive type, or 256 plus the basic type.
+fn number_of(kind: Kind) -> usize
+    ensures { result ≡ kind_number kind }
+{
+    match kind {
+        Kind::Primitive(t) => t,
+        Kind::ShortString => 257,
+        Kind::Object => 258,
+        Kind::List => 259,
+    }
+}
+
+// A value that was read.
+fn of_read(v: Value) -> Words
+    requires { Numeral (Ok v) }
+    ensures { list_of result ≡ words_of value_shape (value_numbers (Ok v)) }
 {
     match v {
         Value::Null => answer(0, 0, 0, 0),
@@ -61,8 +74,17 @@ pub fn of_value(v: Value) -> Words
         Value::F32Nan(n) => in_one(14, n),
         Value::F64(x) => in_two(7, f64::to_bits(x)),
         Value::F64Nan(n) => in_two(7, n),
-        Value::Bytes { kind, start, end } => answer(kind, 0, start, end),
-        Value::Short => refusal(50, 0),
-        Value::Unknown => refusal(51, 0),
+        Value::Bytes { kind, start, end } => answer(number_of(kind), 0, start, end),
+    }
+}
+
+pub fn of_value(v: Result<Value, Refusal>) -> Words
+    requires { Numeral v }
+    ensures { list_of result ≡ words_of value_shape (value_numbers v) }
+{
+    match v {
+        Ok(read) => of_read(read),
+        Err(Refusal::Short) => refusal(50, 0),
+        Err(Refusal::Unknown) => refusal(51, 0),
     }
 }

@@ -1,4 +1,4 @@
--- `bits::of_value` meets its contract: case by case. Assumes nothing.
+-- `bits::of_read` meets its contract: case by case. Assumes nothing.
 use Rattle.rules.proofs.Prelude.{◌∙◌, ap, List, ℕ, arith, rules}
 use mir.Syntax.{w8, w16, w32, w64}
 use mir.Facts.{to_z-of_z}
@@ -6,14 +6,14 @@ use Rattle.number.specs.Signed.{extended}
 use Rattle.value.specs.Answers.{in_two}
 use Rattle.strip.specs.Shapes.{words_of, value_shape}
 use Rattle.bits.proofs.Laws.{wider, same}
-use Rattle.bits.proofs.of_value.Statement.{statement}
-use Rattle.bits.proofs.of_value.Tie as tie
+use Rattle.bits.proofs.of_read.Statement.{statement}
+use Rattle.bits.proofs.of_read.Tie as tie
 
 abbrev two : ℕ → ℕ → List ℕ
 two kind bits = words_of value_shape (in_two kind bits)
 
-pub of_value_spec : {M : Type 1} → statement M
-of_value_spec =
+pub of_read_spec : {M : Type 1} → statement M
+of_read_spec =
     tie.close
     (tie.spec
     (λ c. search rules) (λ c κs. search rules) (λ c. search rules) (λ c κs. search rules)
@@ -31,8 +31,8 @@ of_value_spec =
     (λ c. rw c.in-F32.is at c.requires)  -- float-to-bits-in-one
     (λ c κs. search rules) (λ c. search rules) (λ c κs. search rules) (λ c. search rules)
     (λ c. rw c.in-F64.is at c.requires)  -- float-to-bits-in-two
-    (λ c κs. search rules) (λ c. search rules) (λ c κs. search rules) (λ c. search rules) (λ c κs. search rules)
-    (λ c. search rules) (λ c κs. search rules) (λ c. search rules) (λ c κs. search rules)
+    (λ c κs. search rules) (λ c. search rules) (λ c κs. search rules)
+    (λ c. search rules) (λ c κs. search rules) (λ c κs. search rules)
     (λ c. rw c.in-Null.is c.answer.ensures)  -- returns
     (λ c. rw c.in-Bool.is c.of_truth.ensures)  -- returns-2
     (λ c. let n = c in
@@ -51,6 +51,4 @@ of_value_spec =
     (λ c. rw c.in-F32Nan.is c.in_one-in-F32Nan.ensures)  -- returns-8
     (λ c. rw c.in-F64.is c.in_two-in-F64.ensures)  -- returns-9
     (λ c. rw c.in-F64Nan.is c.in_two-in-F64Nan.ensures)  -- returns-10
-    (λ c. rw c.in-Bytes.is c.answer-in-Bytes.ensures)  -- returns-11
-    (λ c. rw c.in-Short.is c.refusal.ensures)  -- returns-12
-    (λ c. rw c.in-Unknown.is c.refusal-in-Unknown.ensures))  -- returns-13
+    (λ c. rw (c.in-Bytes.is, ← c.number_of.ensures) c.answer-in-Bytes.ensures))  -- returns-11
