@@ -11,7 +11,7 @@ use Rattle.encoding.specs.Encoding.{list_widths}
 use Rattle.list.proofs.Fits.{refusal_fits}
 use Rattle.object.proofs.Refuses.{is_due}
 use Rattle.object.proofs.Fits.{checks_code, layer_small}
-use Rattle.lookup.proofs.Found as lookup
+use Rattle.lookup.proofs.Finds as lookup
 use Rattle.elements.specs.Element.{widths}
 use Rattle.elements.specs.Meaning as list
 use Rattle.elements.specs.Meaning.Refusal.{too_long, empty, no_list, layer}
@@ -20,7 +20,7 @@ use Rattle.steps.specs.Path.{Step}
 use Rattle.steps.specs.Meaning as path
 use Rattle.parsing.specs.Meaning as parsing
 use Rattle.parsing.specs.Meaning.Refusal.{not_text, leading_dot_law, met, no_room}
-use Rattle.strides.specs.declared.Spot.{Spot}
+use Rattle.lookup.specs.declared.Found.{Found as Spot}
 use Rattle.path.specs.Path.{whole, handed, by_path}
 use Rattle.path.specs.Meaning.{Ends, Says}
 use Rattle.path.specs.Meaning.Ends.{arrived, by_name, by_index, no_name, no_index, no_object, no_list as not-list, bad_object, bad_list}
