@@ -53,6 +53,7 @@ pub fn find(
     requires { Opened dict.now h object.now l × (above ≤ count_of object.now) × AllAbove dict.now object.now name.now above }
     ensures { sought_of result ≡ seek (field_name dict.now object.now) name.now (count_of object.now) }
 {
+    // No for: each turn leaves half of the fields, and not the next of a row of them.
     let mut low = 0;
     let mut high = above;
     while low < high {

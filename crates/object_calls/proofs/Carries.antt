@@ -6,7 +6,7 @@ use Rattle.object.proofs.Means.{checks_mean}
 use Rattle.object.proofs.Refuses.{is_due}
 use Rattle.object.proofs.Fits.{checks_code, layer_small, child_small}
 use Rattle.lookup.specs.ByName.{lookup}
-use Rattle.lookup.proofs.Found as found
+use Rattle.lookup.proofs.Finds as found
 use Rattle.strip.specs.Shapes.{words_of, lookup_shape, layer_shape, strip_bytes}
 use Rattle.strip.specs.Reading.{words_in}
 use Rattle.strip.proofs.Carries.{Fits, carried}

@@ -77,6 +77,7 @@ fn narrow(
     let mut c = 0;
     let mut d = 0;
     let mut size = l.count;
+    // No for: the turns are as many as halvings of the count.
     while 1 < size {
         let half = size / 2;
         a = probe(dict, h, object, l, a, half, p);

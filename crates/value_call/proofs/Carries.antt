@@ -1,13 +1,15 @@
 -- No word of a value's answer is too large for its four bytes, so that a strip carries the answer whole. Bytes are what a slice has: each is below
 -- 256, which is what makes the words fit. Assumes nothing.
-use Rattle.rules.proofs.Prelude.{◌≡◌, refl, sym, ap, ◌∙◌, List, [], ◌∷◌, ℕ, ◌≤◌, ◌<◌, arith, length, drop}
+use Rattle.rules.proofs.Prelude.{◌≡◌, refl, List, [], ◌∷◌, ℕ, ◌≤◌, ◌<◌, arith, length, drop}
 use Rattle.width.specs.Width.{le}
 use Rattle.width.specs.Limits.{u32_max}
 use Rattle.width.proofs.Laws.{Bytes}
 use Rattle.number.specs.Signed.{signed, extended}
 use Rattle.number.proofs.Means.{extended_small}
 use Rattle.encoding.specs.declared.Header.{Header}
+use Rattle.std.specs.Prelude.{Result, Ok}
 use Rattle.value.specs.declared.Value.{Value}
+use Rattle.value.specs.declared.Refusal.{Refusal}
 use Rattle.value.specs.Reading.{payload_start, single, double, reading}
 use Rattle.value.specs.Answers.{in_two, value_numbers}
 use Rattle.value.specs.Meaning.{Begins, OfType, Reads}
@@ -26,12 +28,11 @@ module _ (s : List ℕ) (bytes : Bytes s) where
   integer_fits w few known = let x = extended_small w (drop 1 s) (rest_bytes s bytes 1) few in omega arith
 
   -- a float's, whichever case its bits are read as
-  double_fits : (v : Value) → double (le 8 (drop 1 s)) ≡ v → Fits (words_of value_shape (value_numbers v))
-  double_fits v e =
-      let l = four s bytes 1 in let h = four s bytes 5 in rw (ap value_numbers (sym e) ∙ double_told s bytes) (omega arith)
+  double_fits : Fits (words_of value_shape (value_numbers (Ok (double (le 8 (drop 1 s))))))
+  double_fits = let l = four s bytes 1 in let h = four s bytes 5 in rw (double_told s bytes) (omega arith)
 
-  float_fits : (v : Value) → single (le 4 (drop 1 s)) ≡ v → Fits (words_of value_shape (value_numbers v))
-  float_fits v e = let l = four s bytes 1 in rw (ap value_numbers (sym e) ∙ single_told s bytes) (omega arith)
+  float_fits : Fits (words_of value_shape (value_numbers (Ok (single (le 4 (drop 1 s))))))
+  float_fits = let l = four s bytes 1 in rw (single_told s bytes) (omega arith)
 
   -- the start and end of bytes
   placed_fits : {t n : ℕ} (a : ℕ) → a ≤ 5 → OfType s t n → Fits (0 ∷ t ∷ 0 ∷ a ∷ n ∷ 0 ∷ [])
@@ -46,7 +47,7 @@ module _ (s : List ℕ) (bytes : Bytes s) where
   unfolding single double payload_start
   value_fits = go (reading s) ((means.exactly_when s (reading s)).0 refl)
     where
-      go : (v : Value) → Reads s v → Fits (words_of value_shape (value_numbers v))
+      go : (v : Result Value Refusal) → Reads s v → Fits (words_of value_shape (value_numbers v))
       go v (null b) = omega arith
       go v (is_true b) = omega arith
       go v (is_false b) = omega arith
@@ -54,10 +55,10 @@ module _ (s : List ℕ) (bytes : Bytes s) where
       go v (int16 b) = integer_fits 2 (omega arith) (omega arith)
       go v (int32 b) = integer_fits 4 (omega arith) (omega arith)
       go v (int64 b) = integer_fits 8 (omega arith) (omega arith)
-      go v (r-double b e) = double_fits v (rw e)
-      go v (double_nan b e) = double_fits v (rw e)
-      go v (float b e) = float_fits v (rw e)
-      go v (float_nan b e) = float_fits v (rw e)
+      go v (r-double b e) = rw e at double_fits
+      go v (double_nan b e) = rw e at double_fits
+      go v (float b e) = rw e at float_fits
+      go v (float_nan b e) = rw e at float_fits
       go v (payload b p e) = placed_fits 1 (omega arith) b
       go v (after_length b p e) = placed_fits 5 (omega arith) b
       go v (short_string b) = begun_fits 257 1 (omega arith) (omega arith) b
