@@ -6,6 +6,7 @@
 ghost use Rattle.std.specs.Prelude.{◌≤◌, length};
 
 use files::LENT;
+use part::Span;
 use print::room;
 use std::io;
 use std::io::{Read, Write};
@@ -18,15 +19,21 @@ const RUN: usize = 4096;
 // The bytes of `commands`, and more.
 const COMMANDS: usize = 65_536;
 
+// The first word from `from` on, empty where there is none, and where it ends.
+fn next_word(line: &[u8], from: usize) -> (&[u8], usize) {
+    let Span { start, end } = word(line, from);
+    (&line[start..end], end)
+}
+
 // How many of five words there are, and one more for the program's name.
 fn count(line: &[u8]) -> usize {
     let mut next = 0;
     for count in 1..6 {
-        let found = word(line, next);
-        if found.start == found.end {
+        let (found, end) = next_word(line, next);
+        if found.is_empty() {
             return count;
         }
-        next = found.end;
+        next = end;
     }
     6
 }
@@ -56,15 +63,13 @@ fn gather(line: &[u8], from: usize, run: &mut [u8], ends: &mut [u32]) -> Names
     let mut next = from;
     let mut len: usize = 0;
     for count in 0..ends.len() {
-        let name = word(line, next);
-        let a = name.start;
-        let e = name.end;
-        if a == e {
+        let (name, end) = next_word(line, next);
+        if name.is_empty() {
             return Names { len, count };
         }
-        len = put(run, len, &line[a..e]);
+        len = put(run, len, name);
         ends[count] = len as u32;
-        next = e;
+        next = end;
     }
     Names {
         len,
@@ -104,25 +109,19 @@ fn front(s: &[u8]) -> &[u8] {
 
 // What stands in place of standard input: a file, or what cannot be read where there is none.
 #[derive(Drop)]
-enum Given<F> {
-    File(F),
-    Missing,
-}
+struct Given<F>(Option<F>);
 
 impl<F: Read> Read for Given<F> {
     fn read(&mut self, buf: &mut [u8]) -> io::Result<usize> {
-        match self {
-            Given::File(file) => file.read(buf),
-            Given::Missing => Err(io::Error::other("not open")),
+        match &mut self.0 {
+            Some(file) => file.read(buf),
+            None => Err(io::Error::other("not open")),
         }
     }
 }
 
 fn to_read<R: Files>(rt: &R, path: &[u8]) -> Given<R::File> {
-    match files::open(rt, path) {
-        Ok(file) => Given::File(file),
-        Err(_) => Given::Missing,
-    }
+    Given(files::open(rt, path).ok())
 }
 
 // What `write-dictionary` makes of a file, its messages among it: the first bytes in hex, and how all are read.
@@ -164,31 +163,17 @@ fn check_pieces(rt: &(impl Files + Print), path: &[u8]) -> io::Result<()> {
 }
 
 fn act(rt: &(impl Files + Input + Print), errors: &mut impl Write, line: &[u8]) -> io::Result<()> {
-    let verb = word(line, 0);
-    let one = word(line, verb.end);
-    let two = word(line, one.end);
-    let three = word(line, two.end);
-    let a = verb.start;
-    let b = verb.end;
-    let c = one.start;
-    let d = one.end;
-    let e = two.start;
-    let f = two.end;
-    let g = three.start;
-    let h = three.end;
-    let n = count(line);
-    if 5 <= n && check::same(&line[a..b], b"find") {
-        find_names(rt, line, f, &line[c..d], &line[e..f])
-    } else if n == 5 && check::same(&line[a..b], b"get") {
-        get(rt, &line[c..d], &line[e..f], &line[g..h])
-    } else if n == 3 && check::same(&line[a..b], b"write-dictionary") {
-        write_dictionary(rt, &line[c..d])
-    } else if n == 4 && check::same(&line[a..b], b"write-object") {
-        write_object(rt, &line[c..d], &line[e..f])
-    } else if n == 5 && check::same(&line[e..f], b"<") {
-        check_pieces(rt, &line[g..h])
-    } else {
-        command::act(rt, errors, n, &line[a..b], &line[c..d], &line[e..f])
+    let (verb, next) = next_word(line, 0);
+    let (one, next) = next_word(line, next);
+    let (two, next) = next_word(line, next);
+    let (three, _) = next_word(line, next);
+    match (count(line), verb) {
+        (5.., b"find") => find_names(rt, line, next, one, two),
+        (5, b"get") => get(rt, one, two, three),
+        (3, b"write-dictionary") => write_dictionary(rt, one),
+        (4, b"write-object") => write_object(rt, one, two),
+        (5, _) if matches!(two, b"<") => check_pieces(rt, three),
+        (count, _) => command::act(rt, errors, count, verb, one, two),
     }
 }
 
