@@ -1,12 +1,23 @@
 -- What is left to write makes the same of the room as the whole does: byte by byte, and one run of bytes after another. Assumes nothing.
 use Prim.Native.Nat.{◌%◌}
 use borrow.Rule.Slice.PartMut.{put_mid}
+use lib.ListN.{drop, length-drop}
+use lib.Seq.{length-take-le}
 use Rattle.rules.proofs.Prelude.{◌≡◌, refl, sym, ap, ◌∙◌, List, [], ◌∷◌, ◌++◌, ℕ, zero, suc, ◌+◌, ◌-◌, ◌/◌, ◌≤◌, ◌<◌, add-one, arith, length, take, drop-drop, set, sets, sets-eq, append_assoc}
 use Rattle.width.specs.Width.{bytes_of}
 
 -- COPIES, at once
-pub mid_sets : (l vs : List ℕ) (to n : ℕ) → length vs ≡ n → to + n ≤ length l → put_mid to n l vs ≡ sets l to vs
+mid_sets : (l vs : List ℕ) (to n : ℕ) → length vs ≡ n → to + n ≤ length l → put_mid to n l vs ≡ sets l to vs
 mid_sets l vs to n e h = sym (sets-eq vs l to (omega arith) ∙ rw (append_assoc (take to l) vs, e, drop-drop))
+
+pub copied : (l bytes part : List ℕ) (from to len : ℕ) → part ≡ take (from + len - from) (drop from bytes) → from + len ≤ length bytes → to + len ≤ length l
+    → put_mid to (to + len - to) l part ≡ sets l to (take len (drop from bytes))
+copied l bytes part from to len e p q =
+    let source : from + len - from ≡ len = omega arith in
+    let target : to + len - to ≡ len = omega arith in
+    let is : part ≡ take len (drop from bytes) = rw source at e in
+    let size = length-take-le len (drop from bytes) (omega (arith, length-drop from bytes)) in
+    rw (target, is) (mid_sets l (take len (drop from bytes)) to len size (omega arith))
 
 -- and byte by byte
 take_more : (n a : ℕ) (s : List ℕ) → 0 < n → take n (a ∷ s) ≡ a ∷ take (n - 1) s

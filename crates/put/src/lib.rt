@@ -6,6 +6,7 @@ ghost use Rattle.std.proofs.lemmas.List.Edits.{sets};
 ghost use Rattle.width.specs.Width.{bytes_of};
 
 // `len` bytes, as they stand from `from` on, into the room at `to`.
+#[tactic(auto, using(crate::proofs::Laws::copied))]
 pub fn copy(bytes: &[u8], from: usize, len: usize, room: &mut [u8], to: usize)
     requires { (from + len ≤ length bytes.now) × (to + len ≤ length room.old) }
     ensures { room.new ≡ sets room.old to (take len (drop from bytes.now)) }
