@@ -17,7 +17,6 @@ use operands::{Fault, Operands, Tail};
 use outcomes::Outcome;
 use part::Span;
 use print::room;
-use print::room::ROOM;
 use slices::{first, part_of, spread};
 use text::word;
 
@@ -99,12 +98,20 @@ fn filled(rows: usize, width: usize, room: usize) -> usize {
     }
 }
 
-// The first `room` words.
-fn room_of(words: &mut [u32], room: usize) -> Result<&mut [u32], Fault> {
-    if words.len() < room {
+// The first `n` of what is lent.
+fn room_of<T>(lent: &mut [T], n: usize) -> Result<&mut [T], Fault> {
+    if lent.len() < n {
         return Err(Fault::NoRoom);
     }
-    Ok(&mut words[0..room])
+    Ok(&mut lent[0..n])
+}
+
+// Room for `n` bytes, which is no more than there are words for them.
+fn byte_room<'a>(lent: &'a mut [u8], n: usize, words: &[u32]) -> Result<&'a mut [u8], Fault> {
+    if words.len() < n {
+        return Err(Fault::NoRoom);
+    }
+    room_of(lent, n)
 }
 
 fn list(dict: &[u8], object: &[u8], room: usize, words: &mut [u32]) -> Result<Outcome, Fault> {
@@ -125,31 +132,30 @@ fn all(
 }
 
 // The dictionary of names, with scratch for the most ends.
-fn compose(run: &[u8], ends: &[u32], room: &mut [u8]) -> Answer {
+fn compose(run: &[u8], ends: &[u32], n: usize, words: &mut [u32]) -> Result<Outcome, Fault> {
     let mut order = [0u32; ENDS];
     let mut spare = [0u32; ENDS];
-    ask_into::write_dictionary(run, ends, &mut order, &mut spare, room)
+    let mut lent = room::bytes();
+    let bytes: &mut [u8] = &mut lent;
+    let room = byte_room(bytes, n, words)?;
+    let a = ask_into::write_dictionary(run, ends, &mut order, &mut spare, room);
+    Ok(listed(a, spread(part_of(bytes, 0, a.end), words)))
 }
 
 // And the object of pairs.
-fn assemble(dict: &[u8], bytes: &[u8], pairs: &[u32], room: &mut [u8]) -> Answer {
-    let mut order = [0u32; ENDS];
-    let mut spare = [0u32; ENDS];
-    ask_into::write_object(dict, bytes, pairs, &mut order, &mut spare, room)
-}
-
-// What is written by `into` room for `n` bytes, which is no more than there are words for its bytes.
-fn written(
+fn assemble(
+    dict: &[u8],
+    children: &[u8],
+    pairs: &[u32],
     n: usize,
     words: &mut [u32],
-    into: impl Fn(&mut [u8]) -> Answer,
 ) -> Result<Outcome, Fault> {
-    if words.len() < n || ROOM < n {
-        return Err(Fault::NoRoom);
-    }
+    let mut order = [0u32; ENDS];
+    let mut spare = [0u32; ENDS];
     let mut lent = room::bytes();
     let bytes: &mut [u8] = &mut lent;
-    let a = into(&mut bytes[0..n]);
+    let room = byte_room(bytes, n, words)?;
+    let a = ask_into::write_object(dict, children, pairs, &mut order, &mut spare, room);
     Ok(listed(a, spread(part_of(bytes, 0, a.end), words)))
 }
 
@@ -178,10 +184,8 @@ fn asked(
         Verb::Value => ask::value(one),
         Verb::Tree => ask::tree(one, two),
         Verb::Path => walk(one, two, three),
-        Verb::Write => return written(n, words, |room: &mut [u8]| compose(one, ends, room)),
-        Verb::WriteObject => {
-            return written(n, words, |room: &mut [u8]| assemble(one, two, ends, room));
-        }
+        Verb::Write => return compose(one, ends, n, words),
+        Verb::WriteObject => return assemble(one, two, ends, n, words),
     };
     Ok(Outcome::Answered(answer))
 }
