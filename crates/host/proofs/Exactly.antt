@@ -9,7 +9,7 @@ use Rattle.layer.specs.Object as object
 use Rattle.object.proofs.Accepts.{accepts}
 use Rattle.object.proofs.Refuses.{refuses}
 use Rattle.lookup.specs.ByName.{lookup as lookup-of}
-use Rattle.lookup.proofs.Found as lookup
+use Rattle.lookup.proofs.Finds as lookup
 use Rattle.listing.specs.Words.{listed as list_of}
 use Rattle.listing.proofs.Lists as listing
 use Rattle.strip.specs.Shapes.{Shape, words_of, lookup_shape, layer_shape, dictionary_shape, name_shape, strip_bytes}

@@ -12,7 +12,7 @@ use Rattle.metadata.proofs.Names as dictionary-names
 use Rattle.metadata.proofs.Fits as dictionary-fits
 use Rattle.metadata.proofs.Says.{too_small, enough}
 use Rattle.part.specs.Part.{part}
-use Rattle.lengths.specs.declared.Length.TheVariants.{Known}
+use Rattle.std.specs.Prelude.{Ok}
 use Rattle.lengths.specs.Lengths.{own_length}
 use Rattle.layer.specs.Object as object
 use Rattle.object.proofs.Means.{checks_mean}
@@ -21,7 +21,7 @@ use Rattle.object.proofs.Fits.{checks_code}
 use Rattle.lookup.specs.ByName.{lookup as lookup-of}
 use Rattle.lookup.specs.Meaning.{Found, Absent, Spells}
 use Rattle.lookup.specs.Meaning.Spells.{spells}
-use Rattle.lookup.proofs.Found as lookup
+use Rattle.lookup.proofs.Finds as lookup
 use Rattle.listing.specs.Words.{child, span, rows, listed as list_of, words_after as filled}
 use Rattle.listing.proofs.Rows.{rows_length}
 use Rattle.listing.specs.Meaning.{Listed}
@@ -207,7 +207,7 @@ module _ (strip : List ℕ) (code : ℕ) (after : List ℕ) where
           start_is : get_or words_after (3 * k + 1) 0 ≡ object.start o + object.offset o k
           start_is = row_word k 1 p (omega arith) ∙ start_word o _ k p
 
-          pub own_listed : own_length (part o (get_or words_after (3 * k + 1) 0) (word after 4)) ≡ Known (get_or words_after (3 * k + 2) 0)
+          pub own_listed : own_length (part o (get_or words_after (3 * k + 1) 0) (word after 4)) ≡ Ok (get_or words_after (3 * k + 2) 0)
           unfolding child
           own_listed = rw (span_is, start_is, returned_listed.accepted.ends) (own_length_law d o w _ _ _ k returned_listed p)
 

@@ -6,7 +6,7 @@ use Rattle.width.specs.Limits.{u32_max}
 use Rattle.layout.specs.declared.Widths.{Widths}
 use Rattle.layout.specs.Layout.{count, child_start, end}
 use Rattle.encoding.specs.declared.Header.TheVariants as header
-use Rattle.lengths.specs.declared.Length.TheVariants.{Known}
+use Rattle.std.specs.Prelude.{Ok}
 use Rattle.lengths.specs.Lengths.{own_length, bytes_of}
 use Rattle.layer.specs.Object.{id, field_name}
 use Rattle.lookup.specs.ByName.{lookup}
@@ -53,10 +53,10 @@ module _ (d v : List ℕ) where
     tree_exactly enough = exactly strip enough _ tree_shape (verdict d v) tree_said tree_only promised.strip_left
 
     -- it returned 0: the tree is good, and the strip's end its own length
-    pub returned_good : code ≡ 0 → GoodTree d v × (own_length v ≡ Known (word after 4))
+    pub returned_good : code ≡ 0 → GoodTree d v × (own_length v ≡ Ok (word after 4))
     returned_good z = let s = tree_tells.says (λ f. omega arith) in go s.1 (s.0 ∙ z)
       where
-        go : {w : List ℕ} → TreeSays d v w → get_or w 0 0 ≡ 0 → GoodTree d v × (own_length v ≡ Known (get_or w 4 0))
+        go : {w : List ℕ} → TreeSays d v w → get_or w 0 0 ≡ 0 → GoodTree d v × (own_length v ≡ Ok (get_or w 4 0))
         go (accepted g m) z = (g, m)
         go (refused r) z = absurd (omega (arith, (refusal_small d v r).0.least))
 

@@ -6,10 +6,11 @@ use Rattle.width.specs.Width.{le}
 use Rattle.width.proofs.Laws.{Bytes}
 use Rattle.part.specs.Part.{part}
 use Rattle.number.specs.Signed.{signed, extended}
-use Rattle.lengths.specs.declared.Length.TheVariants.{Known}
+use Rattle.std.specs.Prelude.{Result, Ok}
 use Rattle.lengths.specs.Lengths.{is_known, own_length}
 use Rattle.lengths.proofs.Appended.{whatever_follows}
 use Rattle.value.specs.declared.Value.{Value}
+use Rattle.value.specs.declared.Refusal.{Refusal}
 use Rattle.value.specs.Reading.{payload_start, single, double, reading}
 use Rattle.value.specs.Answers.{in_two, value_numbers}
 use Rattle.value.specs.Meaning.{OfType, Placed, Reads}
@@ -41,10 +42,10 @@ module _ (s : List ℕ) (bytes : Bytes s) where
   Told x = Fits (words_of value_shape x) → Said (ValueSays s) (words_of value_shape x)
 
   -- a float's, whichever case its bits are read as
-  double_said : {n : ℕ} (v : Value) → OfType s 7 n → double (le 8 (drop 1 s)) ≡ v → Told (value_numbers v)
+  double_said : {n : ℕ} (v : Result Value Refusal) → OfType s 7 n → Ok (double (le 8 (drop 1 s))) ≡ v → Told (value_numbers v)
   double_said v b e f = let told = ap value_numbers (sym e) ∙ double_told s bytes in rw told (rw told at f, (λ w. omega arith), says-double b)
 
-  float_said : {n : ℕ} (v : Value) → OfType s 14 n → single (le 4 (drop 1 s)) ≡ v → Told (value_numbers v)
+  float_said : {n : ℕ} (v : Result Value Refusal) → OfType s 14 n → Ok (single (le 4 (drop 1 s))) ≡ v → Told (value_numbers v)
   float_said v b e f = let told = ap value_numbers (sym e) ∙ single_told s bytes in rw told (rw told at f, (λ w. omega arith), says-float b)
 
   -- the start and end of bytes
@@ -55,7 +56,7 @@ module _ (s : List ℕ) (bytes : Bytes s) where
   unfolding single double payload_start
   value_said = go (reading s) ((means.exactly_when s (reading s)).0 refl) (value_fits s bytes)
     where
-      go : (v : Value) → Reads s v → Told (value_numbers v)
+      go : (v : Result Value Refusal) → Reads s v → Told (value_numbers v)
       go v (r-null b) f = (f, (λ w. omega arith), null b)
       go v (r-true b) f = (f, (λ w. omega arith), is_true b)
       go v (r-false b) f = (f, (λ w. omega arith), is_false b)
@@ -79,14 +80,14 @@ module _ (s : List ℕ) (bytes : Bytes s) where
       go v (r-no-type a e p) f = (f, (λ w. omega arith), no_such_type (r-no-type a e p))
 
   -- AND ONLY THESE
-  of : (v : Value) → Reads s v → value_words s ≡ words_of value_shape (value_numbers v)
+  of : (v : Result Value Refusal) → Reads s v → value_words s ≡ words_of value_shape (value_numbers v)
   of v r = ap (λ x. words_of value_shape (value_numbers x)) ((means.exactly_when s v).1 r)
 
   of_double : {n : ℕ} → OfType s 7 n → value_words s ≡ 0 ∷ 7 ∷ 0 ∷ le 4 (drop 1 s) ∷ le 4 (drop 5 s) ∷ 0 ∷ []
-  of_double b = of (double (le 8 (drop 1 s))) (means.double_reads s b) ∙ ap (words_of value_shape) (double_told s bytes)
+  of_double b = of (Ok (double (le 8 (drop 1 s)))) (means.double_reads s b) ∙ ap (words_of value_shape) (double_told s bytes)
 
   of_float : {n : ℕ} → OfType s 14 n → value_words s ≡ 0 ∷ 14 ∷ 0 ∷ le 4 (drop 1 s) ∷ 0 ∷ 0 ∷ []
-  of_float b = of (single (le 4 (drop 1 s))) (means.single_reads s b) ∙ ap (words_of value_shape) (single_told s bytes)
+  of_float b = of (Ok (single (le 4 (drop 1 s)))) (means.single_reads s b) ∙ ap (words_of value_shape) (single_told s bytes)
 
   of_integer : {t w n : ℕ} → IntegerOf t w → OfType s t n → value_words s ≡ words_of value_shape (in_two t (extended (signed w (drop 1 s))))
   of_integer int8 b = of _ (r-int8 b)
@@ -119,7 +120,7 @@ module _ (s : List ℕ) (bytes : Bytes s) where
 -- BYTES AFTER THE VALUE, and a value cut: what a call returned and left, it returns and leaves again
 module _ (s strip : List ℕ) {code : ℕ} {after : List ℕ} where
   -- whatever follows the own length
-  module _ (n : ℕ) (own : own_length s ≡ Known n) where
+  module _ (n : ℕ) (own : own_length s ≡ Ok n) where
     pub value_local : (u : List ℕ) → ValuePromise s strip code after → ValuePromise (take n s ++ u) strip code after
     value_local u p = rw (local s n own u) p
 

@@ -1,6 +1,6 @@
 -- What a host learns from the six words of a strip, and from the code that a call returned. proofs/Tells.antt shows it of every answer that
 -- meets the call's promise. Assumes nothing.
-use Rattle.std.specs.Prelude.{◌≡◌, ◌↔◌, List, [], ◌∷◌, ◌++◌, ℕ, ◌*◌, ◌/◌, ◌%◌, ◌≤◌, ◌<◌, length, drop}
+use Rattle.std.specs.Prelude.{◌≡◌, ◌↔◌, List, [], ◌∷◌, ◌++◌, ℕ, ◌*◌, ◌/◌, ◌%◌, ◌≤◌, ◌<◌, length, drop, Ok, Err}
 use Rattle.width.specs.Width.{le}
 use Rattle.rules.specs.Rules.{Answer}
 use Rattle.part.specs.Part.{part}
@@ -19,9 +19,8 @@ use Rattle.listing.specs.Meaning.{Listed, NoLength, NoRoom}
 use Rattle.number.specs.Signed.{signed, extended}
 use Rattle.layout.specs.declared.Widths.{Widths}
 use Rattle.encoding.specs.declared.Header.TheVariants as header
-use Rattle.lengths.specs.declared.Length.TheVariants.{Known}
 use Rattle.lengths.specs.Lengths.{own_length}
-use Rattle.value.specs.declared.Value.TheVariants.{Short, Unknown}
+use Rattle.value.specs.declared.Refusal.TheVariants.{Short, Unknown}
 use Rattle.value.specs.Reading.{payload_start}
 use Rattle.value.specs.Meaning.{Begins, OfType, Placed, Reads}
 use Rattle.nodes.specs.Meaning as tree
@@ -97,12 +96,12 @@ pub data ValueSays (s : List ℕ) : List ℕ → Type 0 where
   short_string : {k n : ℕ} → Begins s (header.ShortString k) n → ValueSays s (0 ∷ 257 ∷ 0 ∷ 1 ∷ n ∷ 0 ∷ [])
   object : {w : Widths} {n : ℕ} → Begins s (header.Object w) n → ValueSays s (0 ∷ 258 ∷ 0 ∷ 0 ∷ n ∷ 0 ∷ [])
   list : {w : Widths} {n : ℕ} → Begins s (header.List w) n → ValueSays s (0 ∷ 259 ∷ 0 ∷ 0 ∷ n ∷ 0 ∷ [])
-  short : Reads s Short → ValueSays s (refusal_words 50 0)
-  no_such_type : Reads s Unknown → ValueSays s (refusal_words 51 0)
+  short : Reads s (Err Short) → ValueSays s (refusal_words 50 0)
+  no_such_type : Reads s (Err Unknown) → ValueSays s (refusal_words 51 0)
 
 -- of a tree: it is good, with its own length for an end; or its first refusal, with the start of the value that it is of
 pub data TreeSays (d v : List ℕ) : List ℕ → Type 0 where
-  accepted : {e : ℕ} → tree.GoodTree d v → own_length v ≡ Known e → TreeSays d v (0 ∷ 0 ∷ 0 ∷ 0 ∷ e ∷ 0 ∷ [])
+  accepted : {e : ℕ} → tree.GoodTree d v → own_length v ≡ Ok e → TreeSays d v (0 ∷ 0 ∷ 0 ∷ 0 ∷ e ∷ 0 ∷ [])
   refused : {c p a : ℕ} → tree.Refusal d v c p a → TreeSays d v (c ∷ 0 ∷ 0 ∷ a ∷ 0 ∷ p ∷ [])
 
 -- of a path: what its answer says, as a lookup's words

@@ -1,6 +1,6 @@
 -- Document 01's starred worked cases, then those of document 02's requests and of many names at one check, in one table: what is asked, and what the document says.
 -- proofs/Worked.antt proves that the definitions say the same. Assumes nothing.
-use Rattle.std.specs.Prelude.{false, List, [], ◌∷◌, ◌++◌, ℕ, zero, suc, negsuc, length, replicate}
+use Rattle.std.specs.Prelude.{false, List, [], ◌∷◌, ◌++◌, ℕ, zero, suc, negsuc, length, replicate, Result, Ok}
 use Rattle.std.specs.Float.{fin}
 use Rattle.rules.specs.Rules.{Answer, refuse, accept}
 use Rattle.rules.specs.Rules.Answer.{gives}
@@ -11,6 +11,8 @@ use Rattle.many.specs.Many as many
 use Rattle.listing.specs.Words.{listed as list_of, words_after}
 use Rattle.value.specs.declared.Value.{Value}
 use Rattle.value.specs.declared.Value.TheVariants.{I8, F32, F32Nan, Bytes}
+use Rattle.value.specs.declared.Kind.TheVariants.{Primitive, ShortString}
+use Rattle.value.specs.declared.Refusal.{Refusal}
 use Rattle.value.specs.Reading.{reading}
 use Rattle.value.specs.Answers.{value_numbers}
 use Rattle.nodes.specs.Tree as trees
@@ -34,7 +36,7 @@ pub data Asked : Type 0 where
 pub data Told : Type 0 where
   answers : Answer → Told
   leaves : List ℕ → Told
-  reads : Value → Told
+  reads : Result Value Refusal → Told
 
 -- what the definitions tell
 abbrev pub tell : Asked → Told
@@ -133,14 +135,14 @@ starred =
     ∷ (listing D gap (replicate 7 9), leaves (0 ∷ 7 ∷ 2 ∷ 1 ∷ 10 ∷ 1 ∷ 9 ∷ []))
     ∷ (listed D unknown (replicate 5 9), answers (refuse 43 1))
     ∷ (listing D unknown (replicate 6 9), leaves (replicate 6 9))
-    ∷ (value (0x0C ∷ 0xFB ∷ []), reads (I8 (negsuc 4)))
+    ∷ (value (0x0C ∷ 0xFB ∷ []), reads (Ok (I8 (negsuc 4))))
     ∷ (told (0x0C ∷ 0xFB ∷ []), answers (accept (3 ∷ 4294967291 ∷ 4294967295 ∷ [])))
-    ∷ (value half, reads (F32 (fin false 1 (negsuc 0))))
+    ∷ (value half, reads (Ok (F32 (fin false 1 (negsuc 0)))))
     ∷ (told half, answers (accept (14 ∷ 0x3F000000 ∷ 0 ∷ [])))
-    ∷ (value (0x38 ∷ 0x01 ∷ 0x00 ∷ 0xC0 ∷ 0xFF ∷ []), reads (F32Nan 0xFFC00001))
-    ∷ (value (0x38 ∷ 0x01 ∷ 0x00 ∷ 0x80 ∷ 0x7F ∷ []), reads (F32Nan 0x7F800001))
-    ∷ (value (0x0D ∷ 0x61 ∷ 0x62 ∷ 0x63 ∷ []), reads (Bytes 257 1 4))
-    ∷ (value (0x40 ∷ 0x02 ∷ 0x00 ∷ 0x00 ∷ 0x00 ∷ 0x61 ∷ 0x62 ∷ 0x63 ∷ []), reads (Bytes 16 5 7))
+    ∷ (value (0x38 ∷ 0x01 ∷ 0x00 ∷ 0xC0 ∷ 0xFF ∷ []), reads (Ok (F32Nan 0xFFC00001)))
+    ∷ (value (0x38 ∷ 0x01 ∷ 0x00 ∷ 0x80 ∷ 0x7F ∷ []), reads (Ok (F32Nan 0x7F800001)))
+    ∷ (value (0x0D ∷ 0x61 ∷ 0x62 ∷ 0x63 ∷ []), reads (Ok (Bytes ShortString 1 4)))
+    ∷ (value (0x40 ∷ 0x02 ∷ 0x00 ∷ 0x00 ∷ 0x00 ∷ 0x61 ∷ 0x62 ∷ 0x63 ∷ []), reads (Ok (Bytes (Primitive 16) 5 7)))
     ∷ (told [], answers (refuse 50 0))
     ∷ (told (0x0C ∷ []), answers (refuse 50 0))
     ∷ (told (0x54 ∷ []), answers (refuse 51 0))
