@@ -1,6 +1,7 @@
 // The full check of a value over a dictionary: all that is below it, too (variant.rs: with_full_validation).
 #![tactic(auto)]
 
+ghost use Rattle.std.specs.Prelude.{◌≤◌};
 ghost use Rattle.marked.specs.Promises.{CheckAtPromise};
 ghost use Rattle.tree.specs.Promises.{CheckPromise, CheckWithPromise};
 
@@ -10,20 +11,26 @@ use nodes::Fault;
 // How many starts have marks of the call's own.
 const OWN: usize = 65_536;
 
+// The full check of a value that is met at a depth, with N marks of the call's own.
+fn check_own<const N: usize>(dict: &[u8], value: &[u8], depth: usize) -> Result<usize, Fault>
+    requires { N ≤ 65536 }
+    ensures { CheckAtPromise depth dict.now value.now result }
+{
+    let mut marks = [0u8; N];
+    check_marked(dict, value, depth, &mut marks)
+}
+
 // The full check of a value that is met at a depth, with marks of its own for the first 65,536 starts. A small value does not pay for many.
 pub fn check_at(dict: &[u8], value: &[u8], depth: usize) -> Result<usize, Fault>
     ensures { CheckAtPromise depth dict.now value.now result }
 {
     if value.len() <= 512 {
-        let mut few = [0u8; 512];
-        return check_marked(dict, value, depth, &mut few);
+        return check_own::<512>(dict, value, depth);
     }
     if value.len() <= 8_192 {
-        let mut some = [0u8; 8_192];
-        return check_marked(dict, value, depth, &mut some);
+        return check_own::<8_192>(dict, value, depth);
     }
-    let mut many = [0u8; OWN];
-    check_marked(dict, value, depth, &mut many)
+    check_own::<OWN>(dict, value, depth)
 }
 
 // The full check of a value over a dictionary.
