@@ -57,10 +57,12 @@ fn finish(
     let w = fill::width_for(sizes.count, sizes.sum);
     let region = 1 + w + w * (sizes.count + 1);
     let length = region + sizes.sum;
-    if dictionary::LIMIT < length {
+    let limit = dictionary::LIMIT;
+    if limit < length {
         return Err(Refusal::TooLong);
     }
-    if room.len() < length {
+    let free = room.len();
+    if free < length {
         return Err(Refusal::NoRoom);
     }
     fill::write_all(run, ends, order, room, w, sizes.count, region);

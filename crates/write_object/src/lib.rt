@@ -105,10 +105,12 @@ fn finish(
     let wo = lay::width_of(sizes.sum);
     let start = builder::region_start(wi, wo, count);
     let length = start + sizes.sum;
-    if dictionary::LIMIT < length {
+    let limit = dictionary::LIMIT;
+    if limit < length {
         return Err(Refusal::TooLong);
     }
-    if room.len() < length {
+    let free = room.len();
+    if free < length {
         return Err(Refusal::NoRoom);
     }
     builder::write_all(

@@ -29,15 +29,15 @@ overflow_add-region-3 c = omega (arith, sums_small (rw (items_names _ _) at c.in
 pub overflow_add-length : goal.overflow_add-length
 overflow_add-length c = omega (arith, sums_small (rw (items_names _ _) at c.in_ok-sizes.ensures) c.width_for-w.ensures)
 
-pub returns-then-length-gt-LIMIT : goal.returns-then-length-gt-LIMIT
+pub returns-then-limit-length : goal.returns-then-limit-length
 unfolding limit
-returns-then-length-gt-LIMIT c =
+returns-then-limit-length c =
     let s = rw (items_names _ _) at c.in_ok-sizes.ensures in
     finish_stop _ (too_long _ _ (omega (arith, length_is s c.width_for-w.ensures))) refl
 
-pub returns-then-room-length : goal.returns-then-room-length
+pub returns-then-free-length : goal.returns-then-free-length
 unfolding limit
-returns-then-room-length c =
+returns-then-free-length c =
     let n = length_is (rw (items_names _ _) at c.in_ok-sizes.ensures) c.width_for-w.ensures in
     finish_stop _ (no_room _ _ (omega (arith, n)) (omega (arith, n))) refl
 

@@ -27,17 +27,17 @@ unfolding limit
 overflow_add-length c =
     let s = rw (items_are _ _ _ _ _) at c.in_ok-sizes.ensures in omega (arith, c.region_start-start.ensures, s.short)
 
-pub returns-then-length-gt-LIMIT : goal.returns-then-length-gt-LIMIT
+pub returns-then-limit-length : goal.returns-then-limit-length
 unfolding limit
-returns-then-length-gt-LIMIT c =
+returns-then-limit-length c =
     let p = c.requires in
     let s = rw (items_are _ _ _ _ _) at c.in_ok-sizes.ensures in
     let n = length_is _ _ _ p.0.distinct s p.2 c.width_of-wi.ensures c.width_of-wo.ensures c.region_start-start.ensures.0 in
     left_stop _ (too_long _ _ (omega (arith, n))) refl
 
-pub returns-then-room-length : goal.returns-then-room-length
+pub returns-then-free-length : goal.returns-then-free-length
 unfolding limit
-returns-then-room-length c =
+returns-then-free-length c =
     let p = c.requires in
     let s = rw (items_are _ _ _ _ _) at c.in_ok-sizes.ensures in
     let n = length_is _ _ _ p.0.distinct s p.2 c.width_of-wi.ensures c.width_of-wo.ensures c.region_start-start.ensures.0 in
