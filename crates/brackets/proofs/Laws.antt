@@ -1,7 +1,6 @@
 -- Laws of what brackets hold, at places of the list, as code goes by them. Assumes nothing.
 use Rattle.rules.proofs.Prelude.{◌≡◌, refl, sym, ap, ◌∙◌, Bool, true, false, cond, ◌&&◌, List, [], ◌∷◌, ℕ, zero, suc, ◌+◌, ◌-◌, ◌*◌, ◌≤◌, ◌<◌, add-one}
 use Rattle.rules.proofs.Prelude.{arith, ltb-true, leb-true, lt-ltb, le-ltb, ne_eqb, ltb, leb, length, take, drop, get_or, false_true}
-use borrow.Author.Tests.{lt-leb, le-leb}
 use lib.ListN.{drop_of_length-le}
 use lib.Seq.{drop-cons}
 use Rattle.brackets.specs.Brackets.{index_limit, one_more, closes, content, first_or, last_or, same_quotes, in_quotes, unquoted, digits, unsigned, some_digits, small, number}

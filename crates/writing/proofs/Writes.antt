@@ -1,8 +1,8 @@
 -- What is left to write makes the same of the buffers as the whole does. Assumes nothing.
-use Rattle.rules.proofs.Prelude.{◌≡◌, refl, sym, ap, ◌∙◌, false, List, [], ◌∷◌, ◌++◌, ℕ, zero, suc, ◌+◌, ◌-◌, ◌*◌, ◌/◌, ◌≤◌, ◌<◌, arith}
+use Rattle.rules.proofs.Prelude.{◌≡◌, refl, sym, ap, ◌∙◌, false, List, [], ◌∷◌, ℕ, suc, ◌+◌, ◌-◌, ◌*◌, ◌/◌, ◌≤◌, ◌<◌, arith}
 use Rattle.rules.proofs.Prelude.{length, take, drop, get_or, set, sets}
 use Prim.Native.Nat.{◌%◌}
-use lib.Seq.{length-sets, drop-cons, take-nil}
+use lib.Seq.{length-sets, take-nil}
 use Rattle.width.specs.Limits.{u32_max}
 use Rattle.put.proofs.Laws.{copy_turn, sets_append}
 use Rattle.brackets.specs.Brackets.{content}
@@ -33,9 +33,6 @@ takes_inj e = (cc, cc)
 
 steps_inj : {xs ys : List Step} → steps xs ≡ steps ys → xs ≡ ys
 steps_inj e = cc
-
-not_takes : {A : Type 0} {code n : ℕ} {x : Step} → wrong code ≡ takes x n → A
-not_takes e = let z : ◌≡◌ {A = ℕ} 0 1 = cc in absurd (omega arith)
 
 none_nothing : {A : Type 0} {code : ℕ} {xs : List Step} → refused code ≡ steps xs → A
 none_nothing e = let z : ◌≡◌ {A = ℕ} 0 1 = cc in absurd (omega arith)
@@ -148,9 +145,6 @@ module _ {s : List ℕ} {at used row : ℕ} {names words : List ℕ} where
       let same = takes_inj (sym d.is ∙ t.is) in
       let w : weight d.step ≡ len = ap weight same.0 ∙ t.weighs in
       (omega (arith, d.names_room, w), d.words_room, omega (arith, d.fits, w))
-
-  pub never_wrong : {code : ℕ} {A : Type 0} → Due s at used row names words → wrong code ≡ next (get_or s at 0) (drop (at + 1) s) → A
-  never_wrong d e = not_takes (e ∙ d.is)
 
   -- a name t was written, or an index n
   pub wrote_name : (t : List ℕ) {names' words' : List ℕ} {len more : ℕ} → takes (named t) more ≡ next (get_or s at 0) (drop (at + 1) s)

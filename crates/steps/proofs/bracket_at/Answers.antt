@@ -1,6 +1,6 @@
 -- `steps::bracket_at` meets its contract: what the pass over the brackets has seen decides. Assumes nothing.
 use Rattle.std.proofs.Common.{sym, ◌∙◌, ◌+◌, drop, arith, rules}
-use Rattle.brackets.proofs.Laws.{no_byte, after_byte, two_quotes}
+use Rattle.brackets.proofs.Laws.{no_byte, after_byte}
 use Rattle.steps.proofs.Laws.{bracket_open, look_none, look_unquoted, look_quoted}
 use Rattle.steps.proofs.bracket_at.Goals as goal
 use Rattle.steps.proofs.bracket_at.Goals.{in_default-via-in-Byte+else-is_quoted, in_default-via-in_default}
