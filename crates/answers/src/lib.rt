@@ -6,8 +6,7 @@ ghost use Rattle.strip.specs.Shapes.{strip_bytes};
 ghost use Rattle.strip.specs.Reading.{words_in};
 ghost use Rattle.answers.specs.Numbers.{numbers_of};
 
-use std::fmt;
-use std::io;
+use std::{fmt, io};
 
 #[derive(Clone, Copy)]
 pub struct Answer {

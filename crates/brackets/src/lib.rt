@@ -47,6 +47,7 @@ pub fn survey(path: &[u8], from: usize) -> Option<Look>
     requires { from ≤ length path.now }
     ensures { LookOf path.now from result }
 {
+    // No `for`: a unit takes one byte or two, and which one ends the pass tells the answer.
     let mut at = from;
     let mut count = 0;
     let mut last = 0;

@@ -12,6 +12,7 @@ fn feed_all(
 ) -> Result<Outcome, Fault> {
     let mut strip = [0u8; STRIP];
     let mut answer = ask_pieces::begin(&mut strip);
+    // No `for`: a word is as long as it is, and the next starts behind it.
     let mut at = from;
     while !ends(line, at) {
         let read = bytes_at(line, at, piece)?;

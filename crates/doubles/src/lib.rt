@@ -76,6 +76,7 @@ fn halve(
     requires { Sound run.now words.now kind × (n ≡ count_of words.now kind) × (n ≤ length order.old) × (n ≤ length spare.old) × (n < 4294967296) × (length (collect (name_of run.now words.now kind) 0 n) < n) }
     ensures { FirstDouble (name_of run.now words.now kind) n result }
 {
+    // No `for`: each turn leaves half of the numbers, and not the next of a row of them.
     let mut low = 0;
     let mut high = n;
     while 1 < high - low {

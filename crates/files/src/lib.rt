@@ -53,6 +53,7 @@ fn too_long(to: &mut impl Write, path: &[u8]) -> io::Result<()> {
 pub fn read(from: &mut impl Read, out: &mut [u8]) -> io::Result<usize>
     ensures { IfOk result (λ len. len ≤ length out.new) }
 {
+    // No `for`: a read gives as many bytes as it likes.
     let mut len: usize = 0;
     while len < out.len() {
         let n = from.read(&mut out[len..])?;

@@ -35,15 +35,5 @@ pub fn write_all(
 {
     room[0] = (0x11 + 64 * (w - 1)) as u8;
     put::number(count, w, room, 1);
-    lay::write_entries(
-        run,
-        ends,
-        run,
-        order,
-        room,
-        w,
-        1 + w,
-        region,
-        Source::Ends,
-    );
+    lay::write_entries(run, ends, run, order, room, w, 1 + w, region, Source::Ends);
 }

@@ -89,6 +89,7 @@ fn end_at(text: &[u8], from: usize) -> Result<(), Fault> {
 fn numbers_at(text: &[u8], from: usize, out: &mut [u32]) -> Result<usize, Fault>
     ensures { IfOk result (λ len. len ≤ length out.new) }
 {
+    // No `for`: a word is as long as it is, and the next starts behind it.
     let mut at = from;
     let mut len = 0;
     while !ends(text, at) {

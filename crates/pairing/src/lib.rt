@@ -107,6 +107,7 @@ pub fn gather(
     ensures len_in_bounds { IfOk result (λ pairs. (pairs.len ≤ length bytes.new) × (pairs.count ≤ length words.new)) }
 {
     let mut at: usize = 0;
+    // No `for`: a line is as long as it is, and the next starts behind it.
     let mut line: usize = 0;
     let mut len: usize = 0;
     let mut count: usize = 0;

@@ -20,6 +20,7 @@ pub fn gather(text: &[u8], run: &mut [u8], ends: &mut [u32]) -> Names
     ensures len_in_bounds { (result.len ≤ length run.new) × (result.count ≤ length ends.new) }
 {
     let mut at: usize = 0;
+    // No `for`: a line is as long as it is, and the next starts behind it.
     let mut len: usize = 0;
     let mut count: usize = 0;
     while at < text.len() {

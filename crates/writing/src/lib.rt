@@ -41,6 +41,7 @@ pub struct Parsed {
 pub fn measure_steps(path: &[u8]) -> Result<Parsed, Refusal>
     ensures { MeasureOf path.now result }
 {
+    // No `for`: a step is as long as it is, and the next starts behind it.
     let mut at = 0;
     let mut count = 0;
     let mut total = 0;
@@ -114,6 +115,7 @@ pub fn write_steps(path: &[u8], names: &mut [u8], words: &mut [u32])
     ensures names_after { names.new ≡ sets names.old 0 (names_of (steps_in (parse_of 0 path.now))) }
     ensures words_after { words.new ≡ sets words.old 0 (words_of 0 (steps_in (parse_of 0 path.now))) }
 {
+    // No `for`: a step is as long as it is, and the next starts behind it.
     let mut at = 0;
     let mut used = 0;
     let mut row = 0;
