@@ -5,16 +5,16 @@ use Rattle.assembled.proofs.of_lines.Goals as goal
 
 pub returns-clause-assembled : goal.returns-clause-assembled
 returns-clause-assembled g c =
-    let p = c.gather-pairs in
+    let told = c.in-Ok.ensures in
     let w = c.assemble-a in
-    let object = of_lines p.new.bytes p.new.words c.args.out.now p.result w.result (p.ensures.gather_promise (omega (arith, c.if-pairs-ne0.false)))
-    (omega (arith, p.ensures.len_in_bounds, p.auto, c.word_room-words.type_inv)) w.ensures.result_value w.ensures.out_after c.if-a-ne0.false in
+    let object = of_lines c.gather.new.bytes c.gather.new.words c.args.out.now c.in-Ok.pairs w.result told.gather_promise
+    (omega (arith, told.len_in_bounds, c.gather.auto, c.word_room-words.type_inv)) w.ensures.result_value w.ensures.out_after c.if-a-ne0.false in
     object.0
 
 pub returns-clause-upper_bound : goal.returns-clause-upper_bound
 returns-clause-upper_bound g c =
-    let p = c.gather-pairs in
+    let told = c.in-Ok.ensures in
     let w = c.assemble-a in
-    let object = of_lines p.new.bytes p.new.words c.args.out.now p.result w.result (p.ensures.gather_promise (omega (arith, c.if-pairs-ne0.false)))
-    (omega (arith, p.ensures.len_in_bounds, p.auto, c.word_room-words.type_inv)) w.ensures.result_value w.ensures.out_after c.if-a-ne0.false in
+    let object = of_lines c.gather.new.bytes c.gather.new.words c.args.out.now c.in-Ok.pairs w.result told.gather_promise
+    (omega (arith, told.len_in_bounds, c.gather.auto, c.word_room-words.type_inv)) w.ensures.result_value w.ensures.out_after c.if-a-ne0.false in
     omega (arith, object.1, w.auto)
