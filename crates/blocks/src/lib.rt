@@ -24,7 +24,8 @@ fn wrongs(s: &[u8], from: usize, count: usize) -> bool
     ensures { result ≡ false → Rights s.now (from + 3) (from + 3 + count) }
 {
     let mut any = false;
-    for at in from..from + count {
+    for k in 0..count {
+        let at = from + k;
         any = any | wrong(s[at], s[at + 1], s[at + 2], s[at + 3]);
     }
     any

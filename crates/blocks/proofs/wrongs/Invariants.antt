@@ -3,5 +3,5 @@ use Rattle.std.proofs.Common.{◌≡◌, ◌+◌, false}
 use Rattle.blocks.specs.Steps.{Rights}
 use Rattle.blocks.proofs.wrongs.Given as goal
 
-abbrev pub invariant-loop-at : goal.invariant-loop-at
-invariant-loop-at l = l.any ≡ false → Rights l.s (l.from + 3) (l.at + 3)
+abbrev pub invariant-loop-k : goal.invariant-loop-k
+invariant-loop-k l = l.any ≡ false → Rights l.s (l.from + 3) (l.from + l.k + 3)
