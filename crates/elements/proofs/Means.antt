@@ -1,6 +1,7 @@
 -- An index is found, absent or refused exactly as specs/Meaning.antt says it in words; where it is found, its bytes lie in the list's.
 -- Assumes nothing.
-use Rattle.rules.proofs.Prelude.{◌≡◌, refl, ◌∙◌, ◌↔◌, List, [], ◌∷◌, ℕ, ◌+◌, ◌≤◌, ◌<◌, arith, dec_lt, lt-ltb, le-ltb, length, get_or, Answer, accept, gives, refuse, stop, ◌&◌}
+use Rattle.rules.proofs.Prelude.{◌≡◌, refl, ◌∙◌, ◌↔◌, List, [], ◌∷◌, ℕ, ◌+◌, ◌≤◌, ◌<◌, arith}
+use Rattle.rules.proofs.Prelude.{dec_lt, lt-ltb, le-ltb, length, get_or, Answer, accept, gives, refuse, stop, ◌&◌}
 use Rattle.rules.proofs.Prelude.{first_at, Meant, by_rows, meant_then, meant_map, meant_stop, rows_mean, each_means, by_meaning, stops}
 use Prim.Native.Nat.{◌%◌}
 use Rattle.dictionary.specs.Limits.{limit}

@@ -1,6 +1,7 @@
 -- Bytes added after the dictionary, after the object or after both, each within the limit, change neither the listing nor its words, unless
 -- the answer was empty or short (11, 13, 21 or 23). Assumes nothing.
-use Rattle.rules.proofs.Prelude.{◌≡◌, refl, false, List, [], ◌∷◌, ◌++◌, ℕ, ◌+◌, ◌*◌, ◌≤◌, ◌<◌, arith, length, drop, Found, Stays, code_of, first, each, ◌or_else◌}
+use Rattle.rules.proofs.Prelude.{◌≡◌, refl, false, List, [], ◌∷◌, ◌++◌, ℕ, ◌+◌, ◌*◌, ◌≤◌}
+use Rattle.rules.proofs.Prelude.{◌<◌, arith, length, drop, Found, Stays, code_of, first, each, ◌or_else◌}
 use Rattle.rules.proofs.Prelude.{unless_refused, each_same, ◌otherwise◌, ◌<?◌, ◌⇒◌at◌, pass, stop, both_pass, same_stays, stays_then, stays_answer}
 use Rattle.dictionary.specs.Limits.{limit}
 use Rattle.part.proofs.Laws.{part_append}

@@ -1,7 +1,8 @@
 -- Bytes added after a dictionary, within the limit, change no answer but 11 and 13: neither the verdict, nor a name by its number, nor `checked`.
 -- With the laws by which each number stays as it is, for the layers above. Assumes nothing.
 use Rattle.std.specs.Prelude.{Result, Ok, Err}
-use Rattle.rules.proofs.Prelude.{◌≡◌, refl, sym, ap, ◌∙◌, Bool, false, ◌||◌, List, [], ◌∷◌, ◌++◌, ℕ, ◌+◌, ◌-◌, ◌*◌, ◌≤◌, ◌<◌, arith, ne_eqb, eqb, length}
+use Rattle.rules.proofs.Prelude.{◌≡◌, refl, sym, ap, ◌∙◌, Bool, false, ◌||◌, List, [], ◌∷◌}
+use Rattle.rules.proofs.Prelude.{◌++◌, ℕ, ◌+◌, ◌-◌, ◌*◌, ◌≤◌, ◌<◌, arith, ne_eqb, eqb, length}
 use Rattle.rules.proofs.Prelude.{length-append, List·getD-append, Found, Kept, Stays, accept, code_of, first, each, ◌or_else◌, ◌≤?◌, ◌⇒◌at◌, pass, ◌&◌, passed}
 use Rattle.rules.proofs.Prelude.{both_pass, each_same, kept, same_stays, stays_then, stays_answer}
 use Rattle.width.proofs.Laws.{le_append_at}

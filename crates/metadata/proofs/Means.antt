@@ -1,7 +1,8 @@
 -- What the checks come to, row by row: where all pass, the rules of an accepted dictionary hold; where one stops, that refusal is due.
 -- Accepts.antt and Refuses.antt draw their theorems from it. Assumes nothing.
 use Rattle.std.specs.Prelude.{Result, ⊤}
-use Rattle.rules.proofs.Prelude.{◌≡◌, refl, sym, ap, ◌∙◌, List, ℕ, ◌+◌, ◌-◌, ◌<◌, arith, Test, Fails, Passed, first, each, ◌or◌, ◌or_else◌, pass, ◌&◌, false_true, unless}
+use Rattle.rules.proofs.Prelude.{◌≡◌, refl, sym, ap, ◌∙◌, List, ℕ, ◌+◌, ◌-◌, ◌<◌, arith}
+use Rattle.rules.proofs.Prelude.{Test, Fails, Passed, first, each, ◌or◌, ◌or_else◌, pass, ◌&◌, false_true, unless}
 use Rattle.rules.proofs.Prelude.{never, goes, Meant, Cases, by_rows, by_each, meant_then, meant_map, meant_pass}
 use Rattle.rules.proofs.Laws.Meant.{all_pass, one_stops}
 use Rattle.part.specs.Part.{part}

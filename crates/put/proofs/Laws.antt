@@ -3,7 +3,8 @@ use Prim.Native.Nat.{◌%◌}
 use borrow.Rule.Slice.PartMut.{put_mid}
 use lib.ListN.{drop, length-drop}
 use lib.Seq.{length-take-le}
-use Rattle.rules.proofs.Prelude.{◌≡◌, refl, sym, ap, ◌∙◌, List, [], ◌∷◌, ◌++◌, ℕ, zero, suc, ◌+◌, ◌-◌, ◌/◌, ◌≤◌, ◌<◌, add-one, arith, length, take, drop-drop, set, sets, sets-eq, append_assoc}
+use Rattle.rules.proofs.Prelude.{◌≡◌, refl, sym, ap, ◌∙◌, List, [], ◌∷◌, ◌++◌, ℕ, zero, suc, ◌+◌}
+use Rattle.rules.proofs.Prelude.{◌-◌, ◌/◌, ◌≤◌, ◌<◌, add-one, arith, length, take, drop-drop, set, sets, sets-eq, append_assoc}
 use Rattle.width.specs.Width.{bytes_of}
 
 -- COPIES, at once

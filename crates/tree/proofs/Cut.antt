@@ -1,6 +1,7 @@
 -- An accepted tree whose outermost value is an object, cut anywhere before its end, is refused there as empty (50, no bytes) or short (23); over a
 -- dictionary that is cut before its trimmed end, as that is (11 or 13). Assumes nothing.
-use Rattle.rules.proofs.Prelude.{◌≡◌, refl, sym, ap, ◌∙◌, ◌⊎◌, inl, inr, ⊎_elim, Bool, ◌||◌, List, [], ◌∷◌, ◌++◌, ℕ, ◌≤◌, ◌<◌, dec_lt, arith, eqb, length, get_or}
+use Rattle.rules.proofs.Prelude.{◌≡◌, refl, sym, ap, ◌∙◌, ◌⊎◌, inl, inr, ⊎_elim, Bool, ◌||◌, List}
+use Rattle.rules.proofs.Prelude.{[], ◌∷◌, ◌++◌, ℕ, ◌≤◌, ◌<◌, dec_lt, arith, eqb, length, get_or}
 use Rattle.rules.proofs.Prelude.{take, drop, take-append-drop, length-take, List·getD-append, accept, gives, first, Kept, Passed, StopsAs, pass, stop, cut_stops}
 use Rattle.rules.proofs.Prelude.{passed, first_pass}
 use Rattle.dictionary.specs.Limits.{limit}

@@ -21,4 +21,5 @@ begins_at_spec =
     (λ c. let a = c.args in
     sym (begins_bad a.at a.s.now (omega arith) (sym c.classify.ensures ∙ c.in-None.is)))  -- returns-3
     (λ c. let a = c.args in
-    (rw c.in-Some.field-0-is at c.tails.ensures) ∙ sym (begins_short a.at a.s.now (omega arith) (sym c.classify.ensures ∙ c.in-Some.is) (omega (arith, rest_is c.in-Some.field-0-is)))))  -- returns-4
+    (rw c.in-Some.field-0-is at c.tails.ensures)
+    ∙ sym (begins_short a.at a.s.now (omega arith) (sym c.classify.ensures ∙ c.in-Some.is) (omega (arith, rest_is c.in-Some.field-0-is)))))  -- returns-4
