@@ -17,7 +17,7 @@ use Rattle.tree.proofs.Accepts.{accepts, own_length_law}
 use Rattle.tree.proofs.Refuses.{refuses}
 use Rattle.tree.proofs.Inside.{good_inside, found_inside}
 use Rattle.strip.specs.Shapes.{words_of, lookup_shape, tree_shape, strip_bytes}
-use Rattle.lichenhusk.proofs.Carries.{refusal_small, tree_fits}
+use Rattle.lichenhusk.proofs.Carries.{tree_fits}
 use Rattle.lichenhusk.specs.Strip.{tree_words, filled_after}
 use Rattle.lichenhusk.specs.Promises.{LookupPromise, TreePromise}
 use Rattle.host.specs.Host.{word, words_in, Tells, TreeSays, Clears}
@@ -25,6 +25,7 @@ use Rattle.host.specs.Host.TreeSays.{accepted, refused}
 use Rattle.host.proofs.Carries.{Said, carried, tells}
 use Rattle.host.proofs.Tells.{lookup_said}
 use Rattle.host.proofs.Exactly.{exactly}
+pub use Rattle.lichenhusk.proofs.Carries.{Small, refusal_small}
 
 -- WHAT THE WORDS SAY
 module _ (d v : List ℕ) where

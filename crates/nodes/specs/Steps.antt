@@ -75,10 +75,10 @@ pub record Opened (d w : List ℕ) (a e : ℕ) (c : Container) : Type 0 where
   pub stands : Stands w a e c
   pub only_children : (m : ℕ) → tree d (suc m) (part w a e) ≡ children (tree d m) c.widths (part w a e) (end_of c (part w a e))
 
--- what a container's own checks come to, with any levels left below it
+-- what a container's own checks come to, with any levels left below it: a refusal is of the container itself
 abbrev pub OpeningOf : (d w : List ℕ) (a e : ℕ) → Result Container Fault → Type 0
 OpeningOf d w a e (Err bad) =
-    (left : ℕ) → from a (tree d (left + 1) (part w a e)) ≡ wrong (refusal_number bad.refusal) (refusal_place bad.refusal) bad.start
+    (bad.start ≡ a) × ((left : ℕ) → from a (tree d (left + 1) (part w a e)) ≡ wrong (refusal_number bad.refusal) (refusal_place bad.refusal) bad.start)
 OpeningOf d w a e (Ok c) = Opened d w a e c
 
 -- a list's, over any dictionary

@@ -71,6 +71,12 @@ check_new-returns-in_err-below-in-List t c =
     let told = err_from_is_err_and c.from_residual-in_err-below-in-List.result c.from_residual-in_err-below-in-List.ensures.1 in
     rw (told.1, told.2) (too_deep_law x.over.now.dict.now v x.at.start x.left _ c.in_err-below-in-List.ensures (list_deep x.over.now.dict.now v says))
 
+pub check_new-returns-in_err-c-in-List : goal.check_new-returns-in_err-c-in-List
+check_new-returns-in_err-c-in-List t c =
+    let told = err_from_is_err_and c.from_residual-in_err-c-in-List.result c.from_residual-in_err-c-in-List.ensures.1 in
+    let refused = c.in_err-c-in-List.ensures c.args.over.now.dict.now in
+    rw (told.1, told.2, c.in_ok-below-in-List.ensures) (refused.1 c.in_ok-below-in-List.below)
+
 pub check_new-returns-in-Primitive : goal.check_new-returns-in-Primitive
 check_new-returns-in-Primitive t c =
     let x = c.args in

@@ -1,4 +1,5 @@
 -- `nodes::open_object` meets its contract: the layer's checks are the object's own. Assumes nothing.
+use Rattle.rules.proofs.Prelude.{refl}
 use Rattle.nodes.proofs.Opens.{object_opens, object_refused}
 use Rattle.nodes.proofs.open_object.Goals as goal
 
@@ -6,7 +7,7 @@ pub returns-in-Err : goal.returns-in-Err
 returns-in-Err c =
     let x = c.args in
     let p = c.requires in
-    object_refused x.over.now.value.now x.at.start x.at.end p.0.rises p.0.inside x.w p.2 p.1 x.over.now.dict.now c.in-Err.ensures
+    (refl, object_refused x.over.now.value.now x.at.start x.at.end p.0.rises p.0.inside x.w p.2 p.1 x.over.now.dict.now c.in-Err.ensures)
 
 pub returns-in-Ok : goal.returns-in-Ok
 returns-in-Ok c =
