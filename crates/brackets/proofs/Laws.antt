@@ -4,7 +4,7 @@ use Rattle.rules.proofs.Prelude.{arith, ltb-true, leb-true, lt-ltb, le-ltb, ne_e
 use lib.ListN.{drop_of_length-le}
 use lib.Seq.{drop-cons}
 use Rattle.brackets.specs.Brackets.{index_limit, one_more, closes, content, first_or, last_or, same_quotes, in_quotes, unquoted, digits, unsigned, some_digits, small, number}
-use Rattle.std.specs.Prelude.{Option, None, Some}
+use Rattle.std.specs.Prelude.{Option, None, Some, Ok, Err}
 use Rattle.std.specs.Char.{is_ascii_digit}
 use Rattle.brackets.specs.Steps.{later, ByteOf, PieceOf, LookOf, AfterPlus}
 use Rattle.brackets.specs.declared.Piece.{Piece}
@@ -120,11 +120,12 @@ module _ {s : List ℕ} {from at count last : ℕ} (r : Surveyed s from at count
         inside = b.inside;
       }
 
-  pub survey_never : (content false (drop at s) ≡ []) × (closes false (drop at s) ≡ 0) → LookOf s from None
-  survey_never (e, f) = r.closes_is ∙ rw (f, later_zero (at - from))
+  pub survey_never : (content false (drop at s) ≡ []) × (closes false (drop at s) ≡ 0) → LookOf s from (Err (record { count = count; last = last }))
+  unfolding last_or
+  survey_never (e, f) = (r.closes_is ∙ rw (f, later_zero (at - from)), sym (r.count_is ∙ rw e (omega arith)), sym (r.last_is ∙ rw e))
 
   pub survey_close : (content false (drop at s) ≡ []) × (closes false (drop at s) ≡ 1) × (at < length s)
-      → LookOf s from (Some (record { size = at + 1 - from; count = count; last = last }))
+      → LookOf s from (Ok (record { size = at + 1 - from; count = count; last = last }))
   unfolding last_or
   survey_close (e, f, g) =
       let k : closes false (drop from s) ≡ (at - from) + 1 = r.closes_is ∙ rw f (later_some (at - from) 1 (omega arith)) in

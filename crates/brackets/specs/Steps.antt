@@ -1,9 +1,10 @@
 -- What the functions of the crate answer each other, in the words of Brackets.antt. Assumes nothing.
-use Rattle.std.specs.Prelude.{◌≡◌, false, List, [], ◌∷◌, ℕ, zero, suc, ◌+◌, ◌≤◌, ◌<◌, length, drop, Option, None, Some}
+use Rattle.std.specs.Prelude.{◌≡◌, false, List, [], ◌∷◌, ℕ, zero, suc, ◌+◌, ◌≤◌, ◌<◌, length, drop, Result, Ok, Err}
 use Rattle.brackets.specs.Brackets.{closes, content, last_or, unsigned}
 use Rattle.brackets.specs.declared.Piece.{Piece}
 use Rattle.brackets.specs.declared.Piece.TheVariants as piece
 use Rattle.brackets.specs.declared.Look.{Look}
+use Rattle.brackets.specs.declared.Unclosed.{Unclosed}
 
 -- a bracket that closes k bytes later closes that much later from here; none stays none
 unfoldable pub later : ℕ → ℕ → ℕ
@@ -31,9 +32,10 @@ pub record Seen (s : List ℕ) (from : ℕ) (l : Look) : Type 0 where
   pub shut : l.count < l.size
 
 -- and over any
-abbrev pub LookOf : List ℕ → ℕ → Option Look → Type 0
-LookOf s from None = closes false (drop from s) ≡ 0
-LookOf s from (Some l) = Seen s from l
+abbrev pub LookOf : List ℕ → ℕ → Result Look Unclosed → Type 0
+LookOf s from (Err u) =
+    (closes false (drop from s) ≡ 0) × (u.count ≡ length (content false (drop from s))) × (u.last ≡ last_or 0 (content false (drop from s)))
+LookOf s from (Ok l) = Seen s from l
 
 -- what stands from r on, after a plus or none
 pub record AfterPlus (s : List ℕ) (from r : ℕ) : Type 0 where

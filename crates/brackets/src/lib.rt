@@ -42,8 +42,14 @@ pub struct Look {
     pub last: u8,
 }
 
-// None where no bracket closes.
-pub fn survey(path: &[u8], from: usize) -> Option<Look>
+// No bracket closes: how many bytes are held up to the path's end, the last of those.
+#[derive(Clone, Copy)]
+pub struct Unclosed {
+    pub count: usize,
+    pub last: u8,
+}
+
+pub fn survey(path: &[u8], from: usize) -> Result<Look, Unclosed>
     requires { from ≤ length path.now }
     ensures { LookOf path.now from result }
 {
@@ -53,9 +59,9 @@ pub fn survey(path: &[u8], from: usize) -> Option<Look>
     let mut last = 0;
     loop {
         match unit_at(path, at) {
-            Piece::Never => return None,
+            Piece::Never => return Err(Unclosed { count, last }),
             Piece::Close => {
-                return Some(Look {
+                return Ok(Look {
                     size: at + 1 - from,
                     count,
                     last,

@@ -17,6 +17,18 @@ pub enum Refusal {
     Bracket,
 }
 
+// What an unclosed bracket holds is no part of the refusal.
+impl From<brackets::Unclosed> for Refusal {
+    ghost use Rattle.std.specs.Prelude.{◌≡◌};
+    ghost use Rattle.steps.specs.declared.Refusal.TheVariants.{Unclosed};
+
+    ghost from_gives = { λ _ r. r ≡ Unclosed };
+
+    fn from(_unclosed: brackets::Unclosed) -> Refusal {
+        Refusal::Unclosed
+    }
+}
+
 // What a byte of a path starts: a name, as it stands; a quoted name of `len` bytes once the backslashes are off; an index.
 // `more` bytes after that byte are of it.
 #[derive(Clone, Copy)]
@@ -70,7 +82,7 @@ fn bracket_at(path: &[u8], at: usize) -> Result<Scan, Refusal>
     requires { at < length path.now }
     ensures { (read_scan path.now result ≡ bracket (drop (at + 1) path.now)) × Bounded path.now at result }
 {
-    let look = brackets::survey(path, at + 1).ok_or(Refusal::Unclosed)?;
+    let look = brackets::survey(path, at + 1)?;
     match brackets::unit_at(path, at + 1) {
         Piece::Byte { byte, size } if brackets::is_quoted(look.count, byte, look.last) => {
             Ok(Scan::Quoted {

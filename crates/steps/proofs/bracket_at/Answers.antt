@@ -1,5 +1,6 @@
 -- `steps::bracket_at` meets its contract: what the pass over the brackets has seen decides. Assumes nothing.
-use Rattle.std.proofs.Common.{sym, ◌∙◌, ◌+◌, drop, arith, rules}
+use Rattle.std.proofs.lemmas.Result.{err_from_is_err_and}
+use Rattle.std.proofs.Common.{refl, sym, ◌∙◌, ◌+◌, drop, arith}
 use Rattle.brackets.proofs.Laws.{no_byte, after_byte}
 use Rattle.steps.proofs.Laws.{bracket_open, look_none, look_unquoted, look_quoted}
 use Rattle.steps.proofs.bracket_at.Goals as goal
@@ -7,20 +8,18 @@ use Rattle.steps.proofs.bracket_at.Goals.{in_default-via-in-Byte+else-is_quoted,
 
 pub returns-in_err-look : goal.returns-in_err-look
 returns-in_err-look c =
-    let e = c.in_err-look.ensures.ok_part in
-    rw (bracket_open (drop (c.args.at + 1) c.args.path.now) (rw e at c.survey.ensures)) (search rules)
+    let p = err_from_is_err_and c.from_residual.result c.from_residual.ensures.1 in
+    rw (p.1, p.2, bracket_open (drop (c.args.at + 1) c.args.path.now) c.in_err-look.ensures.0) (refl, tt)
 
 pub returns-in-Byte : goal.returns-in-Byte
 returns-in-Byte c =
-    let e = c.in_ok-look.ensures.ok_part in
-    let r = rw e at c.survey.ensures in
+    let r = c.in_ok-look.ensures in
     let both = sym c.is_quoted.ensures ∙ c.if-is_quoted.true in
     (look_quoted r c.in-Byte.ensures both, (after_byte c.in-Byte.ensures r.count_is, omega (arith, r.shut), omega (arith, r.inside)))
 
 pub returns-in_default : goal.returns-in_default
 returns-in_default c =
-    let e = c.in_ok-look.ensures.ok_part in
-    let r = rw e at c.survey.ensures in
+    let r = c.in_ok-look.ensures in
     elim c.in_default.branch [
       | in_default-via-in-Byte+else-is_quoted w ↦
           let unquoted = sym w.is_quoted.ensures ∙ w.if-is_quoted.false in
