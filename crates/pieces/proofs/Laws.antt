@@ -1,9 +1,8 @@
 -- Laws of the answer to the bytes received, and of one piece: where it settles, what it copies, what is then judged. Assumes nothing.
 use Prim.Native.Nat.{min}
-use lib.Seq.{take-append_seam, take-append-add, length-take-le, drop-drop}
-use borrow.Rule.Slice.PartMut.{put_mid}
+use lib.Seq.{take-append_seam, take-append-add, length-take-le}
 use Rattle.rules.proofs.Prelude.{◌≡◌, sym, ap, ◌∙◌, Bool, true, false, List, ◌++◌, ℕ, ◌+◌, ◌-◌, ◌≤◌, ◌<◌, dec_lt, arith, lt-ltb, le-ltb, ltb, length, take, drop}
-use Rattle.rules.proofs.Prelude.{append_assoc, length-append, length-take, take_all, sets, sets-eq}
+use Rattle.rules.proofs.Prelude.{length-append, length-take, take_all, sets, sets-eq}
 use Rattle.dictionary.specs.Limits.{limit}
 use Rattle.dictionary.specs.Dictionary.{verdict}
 use Rattle.dictionary.specs.Wanted.{wanted}
@@ -108,15 +107,9 @@ module _ (store piece : List ℕ) (held : ℕ) (inside : held ≤ room store) wh
   unfolding answer
   fed_is = fed_answers ∙ rw (kept_is, over_is)
 
-  -- the store after the piece's first n bytes were copied into the part after those held
-  pub put_after : (n : ℕ) → n ≡ fits → put_mid held n store (take n piece) ≡ sets store held copied
-  put_after n e =
-      rw (e, take_least, drop-drop)
-      (sym (sets-eq copied store held (omega (arith, copied_length, room_inside store)) ∙ rw (copied_length, append_assoc)))
-
   -- so what answers for what is kept meets the promise
-  pub taken : (n : ℕ) (after : List ℕ) (r : Fed) → n ≡ fits → after ≡ put_mid held n store (take n piece)
+  pub taken : (n : ℕ) (after : List ℕ) (r : Fed) → n ≡ fits → after ≡ sets store held (take n piece)
       → JudgedPromise (take (held + n) after) (ltb n (length piece)) r → ReceivePromise store piece held r after
   taken n after r e f j =
-      let left : after ≡ sets store held copied = f ∙ put_after n e in
+      let left : after ≡ sets store held copied = f ∙ rw (e, take_least) in
       record { answers = j ∙ rw (left, e) (sym fed_is); leaves = left ∙ sym after_is }

@@ -78,7 +78,7 @@ pub fn receive(store: &mut [u8], piece: &[u8], held: usize) -> Fed
         return Fed::Full;
     }
     let n = (room - held).min(piece.len());
-    store[held..held + n].copy_from_slice(&piece[0..n]);
+    put::copy(piece, 0, n, store, held);
     judge(&store[0..held + n], n < piece.len())
 }
 

@@ -1,26 +1,10 @@
 -- What is left to write makes the same of the room as the whole does: byte by byte, and one run of bytes after another. Assumes nothing.
 use Prim.Native.Nat.{◌%◌}
-use borrow.Rule.Slice.PartMut.{put_mid}
-use lib.ListN.{drop, length-drop}
-use lib.Seq.{length-take-le}
-use Rattle.rules.proofs.Prelude.{◌≡◌, refl, sym, ap, ◌∙◌, List, [], ◌∷◌, ◌++◌, ℕ, zero, suc, ◌+◌}
-use Rattle.rules.proofs.Prelude.{◌-◌, ◌/◌, ◌≤◌, ◌<◌, add-one, arith, length, take, drop-drop, set, sets, sets-eq, append_assoc}
+use lib.Seq.{drop-cons}
+use Rattle.rules.proofs.Prelude.{◌≡◌, refl, ap, ◌∙◌, List, [], ◌∷◌, ◌++◌, ℕ, zero, suc, ◌+◌, ◌-◌, ◌/◌, ◌≤◌, ◌<◌, add-one, arith, length, take, drop, get_or, set, sets}
 use Rattle.width.specs.Width.{bytes_of}
 
--- COPIES, at once
-mid_sets : (l vs : List ℕ) (to n : ℕ) → length vs ≡ n → to + n ≤ length l → put_mid to n l vs ≡ sets l to vs
-mid_sets l vs to n e h = sym (sets-eq vs l to (omega arith) ∙ rw (append_assoc (take to l) vs, e, drop-drop))
-
-pub copied : (l bytes part : List ℕ) (from to len : ℕ) → part ≡ take (from + len - from) (drop from bytes) → from + len ≤ length bytes → to + len ≤ length l
-    → put_mid to (to + len - to) l part ≡ sets l to (take len (drop from bytes))
-copied l bytes part from to len e p q =
-    let source : from + len - from ≡ len = omega arith in
-    let target : to + len - to ≡ len = omega arith in
-    let is : part ≡ take len (drop from bytes) = rw source at e in
-    let size = length-take-le len (drop from bytes) (omega (arith, length-drop from bytes)) in
-    rw (target, is) (mid_sets l (take len (drop from bytes)) to len size (omega arith))
-
--- and byte by byte
+-- COPIES, byte by byte
 take_more : (n a : ℕ) (s : List ℕ) → 0 < n → take n (a ∷ s) ≡ a ∷ take (n - 1) s
 take_more zero a s h = absurd (omega arith)
 take_more (suc n) a s h = let e : suc n - 1 ≡ n = omega arith in rw e
@@ -34,6 +18,14 @@ module _ (l : List ℕ) (to i len : ℕ) where
 
   pub copy_end : (s : List ℕ) → len ≤ i → sets l (to + i) (take (len - i) s) ≡ l
   copy_end s h = let e : len - i ≡ 0 = omega arith in rw e
+
+  pub plain_turn : (s : List ℕ) (from : ℕ) → i < len → from + len ≤ length s
+      → sets l (to + i) (take (len - i) (drop (from + i) s))
+      ≡ sets (set l (to + i) (get_or s (from + i) 0)) (to + (i + 1)) (take (len - (i + 1)) (drop (from + (i + 1)) s))
+  plain_turn s from h k =
+      let e : from + (i + 1) ≡ suc (from + i) = omega arith in
+      let d : from + i < length s = omega arith in
+      rw (drop-cons s (from + i) 0 d, e) (copy_turn (get_or s (from + i) 0) (drop (suc (from + i)) s) h)
 
 -- A NUMBER, its lowest byte first
 pub number_turn : (l : List ℕ) (at left n : ℕ) → 0 < left → sets (set l at (n % 256)) (at + 1) (bytes_of (left - 1) (n / 256)) ≡ sets l at (bytes_of left n)

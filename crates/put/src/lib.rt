@@ -5,13 +5,15 @@ ghost use Rattle.std.specs.Prelude.{◌≡◌, ◌+◌, ◌≤◌, length, take,
 ghost use Rattle.std.proofs.lemmas.List.Edits.{sets};
 ghost use Rattle.width.specs.Width.{bytes_of};
 
-// `len` bytes, as they stand from `from` on, into the room at `to`.
-#[tactic(auto, using(crate::proofs::Laws::copied))]
+// `len` bytes, as they stand from `from` on, into the room at `to`. Byte by byte: `copy_from_slice` is a call of the C library's, which the
+// archive does not need otherwise, and is slower for the few bytes that a name or a child has.
 pub fn copy(bytes: &[u8], from: usize, len: usize, room: &mut [u8], to: usize)
     requires { (from + len ≤ length bytes.now) × (to + len ≤ length room.old) }
     ensures { room.new ≡ sets room.old to (take len (drop from bytes.now)) }
 {
-    room[to..to + len].copy_from_slice(&bytes[from..from + len]);
+    for i in 0..len {
+        room[to + i] = bytes[from + i];
+    }
 }
 
 // The low `width` bytes of a number into the room at `to`, the lowest first.
