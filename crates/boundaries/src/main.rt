@@ -6,7 +6,7 @@
 // number, taken apart, is its bytes. The mark is a digit, the length of the longest text; or a letter, `a` for 0, where it is cut there.
 #![tactic(auto)]
 
-ghost use Rattle.std.specs.Prelude.{◌≤◌, ◌<◌, length, IfSome};
+ghost use Rattle.std.specs.Prelude.{◌≡◌, ◌≤◌, ◌<◌, length, IfSome};
 
 use print::{tell, write_hex};
 use std::io;
@@ -43,9 +43,10 @@ struct Case {
     ghost within: { len ≤ length bytes },
 }
 
-// How many cases differ, and the first of them.
+// How many cases were compared, how many of them differ, and the first that does.
 #[derive(Clone, Copy)]
 struct Tally {
+    compared: usize,
     differ: usize,
     first: Option<usize>,
 }
@@ -177,23 +178,30 @@ fn listed(list: &[u8], number: usize) -> u8
 
 // Compares every case.
 fn run(list: &[u8]) -> Tally
-    ensures { IfSome result.first (λ number. number < 225224) }
+    ensures all { result.compared ≡ 225224 }
+    ensures first { IfSome result.first (λ number. number < 225224) }
 {
+    let mut compared = 0;
     let mut differ = 0;
     let mut first = None;
     for number in 0..CASES {
+        compared += 1;
         if answer(number) != listed(list, number) {
             differ += 1;
             first = first.or(Some(number));
         }
     }
-    Tally { differ, first }
+    Tally {
+        compared,
+        differ,
+        first,
+    }
 }
 
 fn report(rt: &impl Print, list: &[u8], t: Tally) -> io::Result<()>
     requires { IfSome t.first (λ number. number < 225224) }
 {
-    println!(rt; "{CASES} cases compared, {} differ", t.differ)?;
+    println!(rt; "{} cases compared, {} differ", t.compared, t.differ)?;
     let Some(number) = t.first else {
         return Ok(());
     };

@@ -133,11 +133,11 @@ fn all(
 
 // The dictionary of names, with scratch for the most ends.
 fn compose(run: &[u8], ends: &[u32], n: usize, words: &mut [u32]) -> Result<Outcome, Fault> {
-    let mut order = [0u32; ENDS];
-    let mut spare = [0u32; ENDS];
     let mut lent = room::bytes();
     let bytes: &mut [u8] = &mut lent;
     let room = byte_room(bytes, n, words)?;
+    let mut order = [0u32; ENDS];
+    let mut spare = [0u32; ENDS];
     let a = ask_into::write_dictionary(run, ends, &mut order, &mut spare, room);
     Ok(listed(a, spread(part_of(bytes, 0, a.end), words)))
 }
@@ -150,11 +150,11 @@ fn assemble(
     n: usize,
     words: &mut [u32],
 ) -> Result<Outcome, Fault> {
-    let mut order = [0u32; ENDS];
-    let mut spare = [0u32; ENDS];
     let mut lent = room::bytes();
     let bytes: &mut [u8] = &mut lent;
     let room = byte_room(bytes, n, words)?;
+    let mut order = [0u32; ENDS];
+    let mut spare = [0u32; ENDS];
     let a = ask_into::write_object(dict, children, pairs, &mut order, &mut spare, room);
     Ok(listed(a, spread(part_of(bytes, 0, a.end), words)))
 }
