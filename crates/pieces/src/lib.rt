@@ -88,6 +88,7 @@ pub fn feed(store: &mut [u8], piece: &[u8], state: State) -> State
 {
     match state {
         State::More(held) => receive(store, piece, held).into(),
-        State::Settled(_) | State::Full => state,
+        State::Settled(_) => state,
+        State::Full => State::Full,
     }
 }

@@ -1,5 +1,4 @@
 -- `pieces::feed` meets its contract: a settled answer, and 44, stay; of a piece's answer enough is remembered. Assumes nothing.
-use Rattle.rules.proofs.Prelude.{⊎_elim}
 use Rattle.pieces.specs.Feed.{fed, store_after}
 use Rattle.pieces.proofs.Answers.{remembered}
 use Rattle.pieces.proofs.feed.Goals as goal
@@ -17,5 +16,8 @@ returns-in-More c =
 
 pub returns-in-Settled : goal.returns-in-Settled
 unfolding fed store_after
-returns-in-Settled c =
-    ⊎_elim (λ s. let e = s.1 in record { answers = rw e; leaves = rw e }) (λ e. record { answers = rw e; leaves = rw e }) c.in-Settled.is
+returns-in-Settled c = let e = c.in-Settled.is in record { answers = rw e; leaves = rw e }
+
+pub returns-in-Full : goal.returns-in-Full
+unfolding fed store_after
+returns-in-Full c = let e = c.in-Full.is in record { answers = rw e; leaves = rw e }
