@@ -42,7 +42,7 @@ pub struct Look {
     pub last: u8,
 }
 
-// No bracket closes: how many bytes are held up to the path's end, the last of those.
+// No bracket closes: how many bytes are held up to the path's end, and the last of those.
 #[derive(Clone, Copy)]
 pub struct Unclosed {
     pub count: usize,

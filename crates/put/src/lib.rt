@@ -5,8 +5,8 @@ ghost use Rattle.std.specs.Prelude.{◌≡◌, ◌+◌, ◌≤◌, length, take,
 ghost use Rattle.std.proofs.lemmas.List.Edits.{sets};
 ghost use Rattle.width.specs.Width.{bytes_of};
 
-// `len` bytes, as they stand from `from` on, into the room at `to`. Byte by byte: `copy_from_slice` is a call of the C library's, which the
-// archive does not need otherwise, and is slower for the few bytes that a name or a child has.
+// `len` bytes, as they stand from `from` on, into the room at `to`. Byte by byte: `copy_from_slice` is a call of the C library's
+// `memmove`, which the archive does not need otherwise.
 pub fn copy(bytes: &[u8], from: usize, len: usize, room: &mut [u8], to: usize)
     requires { (from + len ≤ length bytes.now) × (to + len ≤ length room.old) }
     ensures { room.new ≡ sets room.old to (take len (drop from bytes.now)) }
